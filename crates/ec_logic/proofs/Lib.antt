@@ -1,0 +1,22 @@
+pub mod Tests
+pub mod Shifting
+pub mod Substituting
+pub mod Agreeing
+pub mod Supporting
+pub mod Completing
+pub mod SupportByPaths
+pub mod TruthByPaths
+pub mod Minimality
+pub mod Tuples
+pub mod Numbers
+pub mod Numbering
+pub mod AtomOrder
+pub mod FewAtoms
+pub mod MarkedBits
+pub mod InTurn
+pub mod Quantifiers
+pub mod Marking
+pub mod Extents
+pub mod Readable
+pub mod AxiomSentences
+mod Examples
