@@ -1,0 +1,4 @@
+pub mod Reading
+pub mod Cuts
+pub mod Prefixes
+pub mod Printed
