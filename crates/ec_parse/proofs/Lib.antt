@@ -1,0 +1,10 @@
+pub mod Depth
+pub mod FormulaSteps
+pub mod LineSteps
+pub mod ListSteps
+pub mod OneAtom
+pub mod OneFormula
+pub mod OneTerm
+pub mod Parted
+pub mod TermSteps
+pub mod Turns

@@ -1,0 +1,12 @@
+use Rattle.std.proofs.Common.{length}
+use Rattle.ec_parse.specs.Mark.{seen_all}
+use Rattle.ec_parse.specs.Reads.{word_of}
+use Rattle.ec_parse.specs.Lists.{IsVariable}
+use Rattle.ec_parse.proofs.Parted.{Parts}
+use Rattle.ec_parse.proofs.list.variables.Given as goal
+
+abbrev pub invariant-parts : goal.invariant-parts
+invariant-parts l = Parts word_of IsVariable (seen_all l.marks) (seen_all l.rest) l.found.items
+
+abbrev pub decreases-parts : goal.decreases-parts
+decreases-parts l = length (seen_all l.rest)

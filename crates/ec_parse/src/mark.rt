@@ -1,0 +1,192 @@
+//! What the rules of the grammar see of tokens.
+ghost use Rattle.std.specs.Prelude.{◌≡◌, ◌∷◌, [], ◌≤◌, ◌<◌, length, MatchOption, IfOk};
+ghost use Rattle.ec_parse.specs.Mark.{sign_of, keyword_of, number_of, mark_of, marks, seen, seen_all, Lacks};
+ghost use Rattle.ec_parse.specs.Mark as spec;
+
+use ec_lex::number::{LARGEST, value};
+use ec_lex::token::{Kind, Token};
+use ec_lex::word::Word;
+use std::alloc::{AllocError, Global};
+
+/// A sign.
+#[derive(Clone, Copy, Debug, PartialEq, Eq)]
+pub(crate) enum Sign {
+    Iff,
+    Implies,
+    AtMost,
+    AtLeast,
+    Unequal,
+    OpenBracket,
+    CloseBracket,
+    OpenBrace,
+    CloseBrace,
+    Open,
+    Close,
+    Comma,
+    Stop,
+    Colon,
+    Not,
+    And,
+    Or,
+    Equal,
+    Less,
+    More,
+    Plus,
+    Minus,
+    Times,
+}
+
+/// A reserved word.
+#[derive(Clone, Copy, Debug, PartialEq, Eq)]
+pub(crate) enum Keyword {
+    Sort,
+    Reified,
+    Function,
+    Event,
+    Fluent,
+    Noninertial,
+    Predicate,
+    Range,
+    Completion,
+    Xor,
+    Mutex,
+    Ignore,
+}
+
+/// What a rule sees of a token. No rule takes `Other`.
+#[derive(Clone, Copy, Debug)]
+pub(crate) enum Mark<'a> {
+    Upper(&'a Word),
+    Lower(&'a Word),
+    Keyword(Keyword, &'a Word),
+    Number(u32),
+    Load(&'a Word),
+    Choice(&'a Word),
+    Sign(Sign),
+    Other,
+}
+
+fn sign_at(word: &[u8]) -> Option<Sign>
+    ensures { result ≡ sign_of word.now }
+{
+    match word {
+        b"<->" => Some(Sign::Iff),
+        b"->" => Some(Sign::Implies),
+        b"<=" => Some(Sign::AtMost),
+        b">=" => Some(Sign::AtLeast),
+        b"!=" => Some(Sign::Unequal),
+        b"[" => Some(Sign::OpenBracket),
+        b"]" => Some(Sign::CloseBracket),
+        b"{" => Some(Sign::OpenBrace),
+        b"}" => Some(Sign::CloseBrace),
+        b"(" => Some(Sign::Open),
+        b")" => Some(Sign::Close),
+        b"," => Some(Sign::Comma),
+        b"." => Some(Sign::Stop),
+        b":" => Some(Sign::Colon),
+        b"!" => Some(Sign::Not),
+        b"&" => Some(Sign::And),
+        b"|" => Some(Sign::Or),
+        b"=" => Some(Sign::Equal),
+        b"<" => Some(Sign::Less),
+        b">" => Some(Sign::More),
+        b"+" => Some(Sign::Plus),
+        b"-" => Some(Sign::Minus),
+        b"*" => Some(Sign::Times),
+        _ => None,
+    }
+}
+
+fn keyword_at(word: &[u8]) -> Option<Keyword>
+    ensures { result ≡ keyword_of word.now }
+{
+    if word == b"sort".as_slice() {
+        Some(Keyword::Sort)
+    } else if word == b"reified".as_slice() {
+        Some(Keyword::Reified)
+    } else if word == b"function".as_slice() {
+        Some(Keyword::Function)
+    } else if word == b"event".as_slice() {
+        Some(Keyword::Event)
+    } else if word == b"fluent".as_slice() {
+        Some(Keyword::Fluent)
+    } else if word == b"noninertial".as_slice() {
+        Some(Keyword::Noninertial)
+    } else if word == b"predicate".as_slice() {
+        Some(Keyword::Predicate)
+    } else if word == b"range".as_slice() {
+        Some(Keyword::Range)
+    } else if word == b"completion".as_slice() {
+        Some(Keyword::Completion)
+    } else if word == b"xor".as_slice() {
+        Some(Keyword::Xor)
+    } else if word == b"mutex".as_slice() {
+        Some(Keyword::Mutex)
+    } else if word == b"ignore".as_slice() {
+        Some(Keyword::Ignore)
+    } else {
+        None
+    }
+}
+
+/// The number that the digits spell, where it is not too large.
+fn number_at(digits: &[u8]) -> Option<u32>
+    ensures { result ≡ number_of digits.now }
+{
+    let n = value(digits);
+    if n > LARGEST { None } else { Some(n) }
+}
+
+/// The mark of a token.
+pub(crate) fn mark_at(token: &Token) -> Mark<'_>
+    ensures { seen result ≡ mark_of token.now }
+{
+    match token.kind {
+        Kind::Upper => Mark::Upper(&token.word),
+        Kind::Lower => match keyword_at(token.word.bytes()) {
+            Some(keyword) => Mark::Keyword(keyword, &token.word),
+            None => Mark::Lower(&token.word),
+        },
+        Kind::Number => match number_at(token.word.bytes()) {
+            Some(number) => Mark::Number(number),
+            None => Mark::Other,
+        },
+        Kind::Load => Mark::Load(&token.word),
+        Kind::Choice => Mark::Choice(&token.word),
+        Kind::Sign => match sign_at(token.word.bytes()) {
+            Some(sign) => Mark::Sign(sign),
+            None => Mark::Other,
+        },
+    }
+}
+
+/// The marks of the tokens.
+pub(crate) fn marks_at<'a>(alloc: Global, tokens: &'a [Token]) -> Result<Vec<Mark<'a>>, AllocError>
+    ensures { IfOk result (λ found. seen_all found.items ≡ marks tokens.now) }
+{
+    let mut found = Vec::with_capacity(alloc, tokens.len())?;
+    for token in tokens {
+        found.push(mark_at(token))?;
+    }
+    Ok(found)
+}
+
+/// The first mark, and those after it.
+pub(crate) fn next<'s, 'a>(marks: &'s [Mark<'a>]) -> Option<(Mark<'a>, &'s [Mark<'a>])>
+    ensures { MatchOption result (seen_all marks.now ≡ []) (λ r. seen_all marks.now ≡ seen r.0 ∷ seen_all r.1.now) }
+{
+    match marks {
+        [mark, rest @ ..] => Some((*mark, rest)),
+        [] => None,
+    }
+}
+
+/// What stands after the sign, where that comes first.
+pub(crate) fn after<'s, 'a>(marks: &'s [Mark<'a>], sign: Sign) -> Option<&'s [Mark<'a>]>
+    ensures { MatchOption result (Lacks (seen_all marks.now) (spec.sign sign)) (λ rest. seen_all marks.now ≡ spec.sign sign ∷ seen_all rest.now) }
+{
+    match next(marks) {
+        Some((Mark::Sign(first), rest)) if first == sign => Some(rest),
+        _ => None,
+    }
+}
