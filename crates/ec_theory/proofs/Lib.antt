@@ -1,0 +1,5 @@
+pub mod Views
+pub mod ParentLemmas
+pub mod SizeLemmas
+pub mod TableLemmas
+pub mod DomainLemmas

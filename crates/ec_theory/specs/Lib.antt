@@ -1,0 +1,5 @@
+pub mod View
+pub mod Rows
+pub mod Sizes
+pub mod Theories
+pub mod Values
