@@ -1,0 +1,7 @@
+pub mod Literal
+pub mod Truth
+pub mod ClauseList
+pub mod Sees
+pub mod Note
+pub mod Step
+pub mod Ending

@@ -1,0 +1,126 @@
+//! Tables of literals, clauses and looks, with the answers worked out by hand.
+
+use crate::assign::Assign;
+use crate::clauses::{Clauses, is_clause};
+use crate::ending::Ending;
+use crate::lit::Lit;
+use crate::look::{Look, look_at};
+use std::alloc::Global;
+use std::process::Abort;
+
+fn lit(rt: &impl Abort, number: i32) -> Lit {
+    assert!(rt; number != 0 && number > i32::MIN);
+    Lit::new(number.unsigned_abs(), number > 0)
+}
+
+fn lits(rt: &impl Abort, alloc: Global, numbers: &[i32]) -> Vec<Lit> {
+    let mut lits = Vec::new(alloc);
+    for number in numbers {
+        lits.push(lit(rt, *number)).expect(rt, "memory");
+    }
+    lits
+}
+
+fn add(rt: &impl Abort, clauses: &mut Clauses, lits: &[Lit]) -> u32 {
+    assert!(rt; is_clause(clauses.variables(), lits));
+    assert!(rt; clauses.len() < u32::MAX);
+    clauses.push(lits).expect(rt, "memory")
+}
+
+#[test]
+fn literals_have_a_variable_and_a_sign(rt: HostRuntime) {
+    assert_eq!(rt; size_of::<Lit>(), 4);
+    for (variable, positive) in [
+        (1, true),
+        (1, false),
+        (2147483647, true),
+        (2147483647, false),
+    ] {
+        let lit = Lit::new(variable, positive);
+        assert_eq!(rt; lit.variable(), variable);
+        assert_eq!(rt; lit.positive(), positive);
+        assert_eq!(rt; lit.opposite(), Lit::new(variable, !positive));
+        assert!(rt; lit.opposite() != lit);
+    }
+}
+
+#[test]
+fn clauses_are_numbered_from_one(rt: HostRuntime) {
+    let alloc = rt.alloc();
+    let table: [&[i32]; 4] = [&[], &[-3], &[1, -2], &[4, -1, 3, 2]];
+    let mut clauses = Clauses::new(alloc, 4);
+    for (place, numbers) in table.iter().enumerate() {
+        let number = add(&rt, &mut clauses, &lits(&rt, alloc, numbers));
+        assert_eq!(rt; number as usize, place + 1);
+    }
+    assert_eq!(rt; clauses.variables(), 4);
+    assert_eq!(rt; clauses.len(), 4);
+    for (place, numbers) in table.iter().enumerate() {
+        assert!(rt; place < 4 && clauses.len() == 4);
+        assert!(rt; clauses.get(place as u32 + 1) == lits(&rt, alloc, numbers).as_slice());
+    }
+    clauses.truncate(9);
+    assert_eq!(rt; clauses.len(), 4);
+    clauses.truncate(2);
+    assert_eq!(rt; clauses.len(), 2);
+    assert!(rt; clauses.len() == 2 && clauses.get(2) == lits(&rt, alloc, &[-3]).as_slice());
+}
+
+#[test]
+fn clauses_repeat_no_variable_and_stay_in_range(rt: HostRuntime) {
+    let alloc = rt.alloc();
+    let table: [(&[i32], bool); 7] = [
+        (&[], true),
+        (&[3], true),
+        (&[4], false),
+        (&[2, -1, 3], true),
+        (&[2, 2], false),
+        (&[1, 2, -1], false),
+        (&[-4, 1], false),
+    ];
+    for (numbers, expected) in table {
+        assert_eq!(rt; is_clause(3, &lits(&rt, alloc, numbers)), expected);
+    }
+}
+
+#[test]
+fn looks_tell_false_unit_and_other_clauses(rt: HostRuntime) {
+    let alloc = rt.alloc();
+    let mut truth = Assign::new(alloc, 5).expect(&rt, "memory");
+    assert!(rt; truth.value(Lit::new(1, true)).is_none());
+    truth.set(Lit::new(1, true));
+    truth.set(Lit::new(2, false));
+    truth.set(Lit::new(5, true));
+    truth.unset(5);
+    assert_eq!(rt; truth.value(Lit::new(1, false)), Some(false));
+    assert_eq!(rt; truth.value(Lit::new(2, false)), Some(true));
+    assert_eq!(rt; truth.value(Lit::new(5, true)), None);
+    let table: [(&[i32], Look); 9] = [
+        (&[], Look::False),
+        (&[-1], Look::False),
+        (&[2, -1], Look::False),
+        (&[1], Look::Other),
+        (&[-5], Look::OneLeft(Lit::new(5, false))),
+        (&[-1, 3, 2], Look::OneLeft(Lit::new(3, true))),
+        (&[3, 4], Look::Other),
+        (&[-3, 1, 4], Look::Other),
+        (&[-1, 2, 4, -3], Look::Other),
+    ];
+    for (numbers, expected) in table {
+        let clause = lits(&rt, alloc, numbers);
+        assert!(rt; is_clause(5, &clause));
+        assert_eq!(rt; look_at(&clause, &truth), expected);
+    }
+}
+
+#[test]
+fn endings_tell_their_number(rt: HostRuntime) {
+    for (ending, number, complete) in [
+        (Ending::Complete(3), 3, true),
+        (Ending::Models(0), 0, false),
+        (Ending::Conflicts(7), 7, false),
+    ] {
+        assert_eq!(rt; ending.number(), number);
+        assert_eq!(rt; ending.is_complete(), complete);
+    }
+}
