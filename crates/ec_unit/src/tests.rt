@@ -1,0 +1,122 @@
+//! Settling to the end and to a conflict, with the trails worked out by hand.
+
+ghost use Rattle.std.specs.Prelude.{◌≡◌, ◌+◌, length};
+
+use crate::watch::{Settled, Watch};
+use ec_clause::clauses::{Clauses, is_clause};
+use ec_clause::lit::Lit;
+use ec_trail::trail::Trail;
+use std::alloc::Global;
+use std::process::Abort;
+
+/// A literal's number, its level and its reason.
+type Row = (i32, u32, Option<u32>);
+
+fn literal(rt: &impl Abort, number: i32) -> Lit {
+    assert!(rt; number != 0 && number > i32::MIN);
+    Lit::new(number.unsigned_abs(), number > 0)
+}
+
+fn add(rt: &impl Abort, alloc: Global, clauses: &mut Clauses, numbers: &[i32]) -> u32
+    ensures variables { clauses.new.variables ≡ clauses.old.variables }
+    ensures number { result ≡ length clauses.old.clauses + 1 }
+    ensures count { length clauses.new.clauses ≡ result }
+{
+    let mut lits = Vec::new(alloc);
+    for number in numbers {
+        lits.push(literal(rt, *number)).expect(rt, "memory");
+    }
+    assert!(rt; is_clause(clauses.variables(), &lits));
+    assert!(rt; clauses.len() < u32::MAX);
+    clauses.push(&lits).expect(rt, "memory")
+}
+
+fn list_of(rt: &impl Abort, alloc: Global, rows: &[&[i32]]) -> Clauses {
+    let mut clauses = Clauses::new(alloc, 4);
+    for numbers in rows {
+        add(rt, alloc, &mut clauses, numbers);
+    }
+    clauses
+}
+
+fn decide(rt: &impl Abort, trail: &mut Trail, number: i32)
+    ensures { trail.new.variables ≡ trail.old.variables }
+{
+    let lit = literal(rt, number);
+    assert!(rt; lit.variable() <= trail.variables());
+    assert!(rt; trail.level_of(lit.variable()).is_none());
+    trail.decide(lit);
+}
+
+fn stands(rt: &impl Abort, trail: &Trail, rows: &[Row]) {
+    assert_eq!(rt; trail.len() as usize, rows.len());
+    let mut place = 0;
+    for (number, level, reason) in rows {
+        assert!(rt; place < trail.len());
+        let entry = trail.entry(place);
+        assert_eq!(rt; entry.lit, literal(rt, *number));
+        assert_eq!(rt; (entry.level, entry.reason), (*level, *reason));
+        place += 1;
+    }
+}
+
+#[test]
+fn settles_at_level_zero(rt: HostRuntime) {
+    let alloc = rt.alloc();
+    let table: [(&[&[i32]], Settled, &[Row]); 6] = [
+        (&[], Settled::Quiet, &[]),
+        (&[&[1, 2], &[-3, 4, 1]], Settled::Quiet, &[]),
+        (&[&[1, 2], &[]], Settled::Conflict(2), &[]),
+        (
+            &[&[3, -2], &[-1, 2], &[1]],
+            Settled::Quiet,
+            &[(1, 0, Some(3)), (2, 0, Some(2)), (3, 0, Some(1))],
+        ),
+        (
+            &[&[1], &[-1, 2], &[-1, -2]],
+            Settled::Conflict(3),
+            &[(1, 0, Some(1)), (2, 0, Some(2))],
+        ),
+        (&[&[-4], &[4]], Settled::Conflict(2), &[(-4, 0, Some(1))]),
+    ];
+    for (clauses, settled, rows) in table {
+        let clauses = list_of(&rt, alloc, clauses);
+        let mut trail = Trail::new(alloc, clauses.variables()).expect(&rt, "memory");
+        let mut watch = Watch::new(&clauses).expect(&rt, "memory");
+        assert!(rt; watch.settle(&clauses, &mut trail) == settled);
+        stands(&rt, &trail, rows);
+    }
+}
+
+#[test]
+fn settles_after_decisions_and_steps_back(rt: HostRuntime) {
+    let alloc = rt.alloc();
+    let mut clauses = list_of(&rt, alloc, &[&[-1, 2], &[-2, 3], &[1, 3, 4]]);
+    let mut trail = Trail::new(alloc, clauses.variables()).expect(&rt, "memory");
+    let mut watch = Watch::new(&clauses).expect(&rt, "memory");
+    decide(&rt, &mut trail, 1);
+    assert!(rt; watch.settle(&clauses, &mut trail) == Settled::Quiet);
+    stands(
+        &rt,
+        &trail,
+        &[(1, 1, None), (2, 1, Some(1)), (3, 1, Some(2))],
+    );
+    trail.back_to(0);
+    assert!(rt; watch.settle(&clauses, &mut trail) == Settled::Quiet);
+    stands(&rt, &trail, &[]);
+    decide(&rt, &mut trail, -3);
+    assert!(rt; watch.settle(&clauses, &mut trail) == Settled::Quiet);
+    stands(
+        &rt,
+        &trail,
+        &[
+            (-3, 1, None),
+            (-2, 1, Some(2)),
+            (-1, 1, Some(1)),
+            (4, 1, Some(3)),
+        ],
+    );
+    let number = add(&rt, alloc, &mut clauses, &[2, -4]);
+    watch.add(&clauses, number).expect(&rt, "memory");
+    assert!(rt; watch.settle(&clauses, &mut trail) == Settled::Conflict(4));
+}
