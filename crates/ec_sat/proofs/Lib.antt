@@ -1,0 +1,13 @@
+pub mod Walk
+pub mod Contained
+pub mod Learns
+pub mod Keeps
+pub mod Down
+pub mod Searches
+pub mod Refutes
+pub mod Levels
+pub mod Running
+pub mod Marks
+pub mod Blocking
+pub mod Solving
+pub mod Heaps

@@ -1,0 +1,11 @@
+use Rattle.std.proofs.Common.{◌≡◌, ◌<◌, length}
+use Rattle.std.specs.Prelude.{vec_capacity}
+use Rattle.ec_sat.specs.Heaped.{IsHeaped}
+use Rattle.ec_sat.proofs.heap.Heap.rise.Given as goal
+
+abbrev pub invariant-loop-place : goal.invariant-loop-place
+invariant-loop-place l =
+    IsHeaped l.self-inside.variables (vec_capacity l.self-inside.heap) l.self-inside.heap.items l.self-inside.places.items l.self-inside.activity.items × (l.place < length l.self-inside.heap.items) × (l.self-inside.variables ≡ l.initial.self-inside.variables)
+
+abbrev pub decreases-loop-place : goal.decreases-loop-place
+decreases-loop-place l = l.place

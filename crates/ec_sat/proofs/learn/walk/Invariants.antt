@@ -1,0 +1,8 @@
+use Rattle.ec_sat.proofs.Down.{IsDown}
+use Rattle.ec_sat.proofs.learn.walk.Given as goal
+
+abbrev pub invariant-loop-count : goal.invariant-loop-count
+invariant-loop-count l = IsDown l.clauses l.trail.variables l.trail.entries l.marks l.hints.items l.count
+
+abbrev pub decreases-loop-count : goal.decreases-loop-count
+decreases-loop-count l = l.count

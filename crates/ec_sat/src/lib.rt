@@ -1,0 +1,20 @@
+//! Conflict-driven search with clause learning, every step of which is noted and proved.
+//!
+//! A `Solver` looks for truths that satisfy all clauses of its list. At a conflict it learns the
+//! clause of the first unique implication point and goes back to its assertion level. It promises
+//! that each clause it derives is a step by its hints, that one with a literal contains no clause
+//! that stands before it, that a model satisfies all clauses, and that the search is exhausted
+//! exactly where the empty clause was derived. What is decided next is free of all this.
+//!
+//! It stands on `ec_clause` (clauses, steps, notes), `ec_trail` and `ec_unit`.
+#![tactic(auto)]
+
+pub mod answer;
+mod heap;
+mod learn;
+mod level;
+mod order;
+mod search;
+pub mod solver;
+#[cfg(test)]
+mod tests;
