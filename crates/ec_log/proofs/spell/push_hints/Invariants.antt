@@ -1,0 +1,7 @@
+use Rattle.std.proofs.Common.{◌≡◌, ◌++◌, take}
+use Rattle.std.specs.List.{flat_map}
+use Rattle.ec_log.specs.Line.{number_word}
+use Rattle.ec_log.proofs.spell.push_hints.Given as goal
+
+abbrev pub invariant-loop-hint : goal.invariant-loop-hint
+invariant-loop-hint l = l.line.items ≡ l.fn.line.items ++ flat_map number_word (take l.hint-index l.hints)

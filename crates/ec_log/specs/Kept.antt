@@ -1,0 +1,20 @@
+-- What a writer keeps of a note, and the line of each entry of its log.
+use Rattle.ec_clause.specs.Note.{Note, Derived, Blocked}
+use Rattle.ec_log.specs.Line as line
+use Rattle.ec_log.specs.Line.{LogLine}
+use Rattle.ec_log.specs.Log.{noted}
+use Rattle.ec_log.specs.declared.kept.Kept.{Kept}
+use Rattle.ec_log.specs.declared.kept.Kept.TheVariants as kept
+use Rattle.ec_log.specs.declared.kept.Entry.{Entry}
+use Rattle.ec_log.specs.declared.kept.Entry.TheVariants as entry
+
+-- the note that is kept
+abbrev pub note_of : Kept → Note
+note_of (kept.Derived lits hints) = Derived lits.items hints.items
+note_of (kept.Blocked lits) = Blocked lits.items
+
+-- the line of an entry
+abbrev pub entry_line : Entry → LogLine
+entry_line (entry.Header variables clauses) = line.Header variables clauses
+entry_line (entry.Note kept) = noted (note_of kept.now)
+entry_line (entry.End ending) = line.End ending.now

@@ -1,0 +1,6 @@
+pub mod Digits
+pub mod Ending
+pub mod Line
+pub mod Reading
+pub mod Log
+pub mod Kept

@@ -1,0 +1,29 @@
+//! The log of a search, written and read line by line.
+//!
+//! A log has a header with two numbers, a line for each clause that was derived (with the numbers
+//! of the clauses that it follows from) and for each truth that was blocked, and an end line. The
+//! spelling of each line is a definition, `spelled`, and what a line may hold is another, `IsLine`.
+//! `read_line` answers the one line that the bytes spell, and Form exactly where they spell none.
+//! `Writer` keeps the notes of a search and then makes a file hold exactly the lines of its log.
+//! `push_ending` and `read_ending` are the words of an ending alone, as the last line of a list has
+//! them.
+//!
+//! It stands on `ec_edge` for files and on `ec_clause` for literals, endings and notes.
+#![tactic(auto)]
+
+mod append;
+mod endings;
+mod kept;
+mod line;
+mod numbers;
+mod read;
+mod spell;
+mod writer;
+
+pub use endings::{push_ending, read_ending};
+pub use line::{Line, LineFault};
+pub use read::read_line;
+pub use writer::{WriteFault, Writer};
+
+#[cfg(test)]
+mod tests;
