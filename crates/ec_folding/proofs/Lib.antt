@@ -1,0 +1,2 @@
+pub mod JoinTruth
+pub mod JoinConstants

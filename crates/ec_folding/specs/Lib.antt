@@ -1,0 +1,4 @@
+pub mod Tree
+pub mod Join
+pub mod Constants
+pub mod Definition
