@@ -1,0 +1,3 @@
+pub mod Prop
+pub mod Joining
+pub mod Grounded
