@@ -1,0 +1,11 @@
+pub mod Gates
+pub mod Names
+pub mod Tidies
+pub mod Whole
+pub mod Extending
+pub mod Marking
+pub mod Keeping
+pub mod Numbering
+pub mod Adding
+pub mod Sizes
+pub mod Examples
