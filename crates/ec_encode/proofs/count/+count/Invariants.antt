@@ -1,0 +1,8 @@
+use Rattle.std.proofs.Common.{◌≡◌, ◌+◌, drop}
+use Rattle.ec_folding.specs.Tree.{as_trees}
+use Rattle.ec_naming.specs.Naming.{names_taken_each}
+use Rattle.ec_prop.specs.Prop.{trees_of}
+use Rattle.ec_encode.proofs.count.+count.Given as goal
+
+abbrev pub invariant-names_taken_each-loop-part : goal.invariant-names_taken_each-loop-part
+invariant-names_taken_each-loop-part l = l.names + names_taken_each (as_trees (trees_of (drop l.part-index l.parts))) ≡ names_taken_each (as_trees (trees_of l.parts))

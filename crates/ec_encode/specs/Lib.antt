@@ -1,0 +1,3 @@
+pub mod Cnf
+pub mod Names
+pub mod Sample
