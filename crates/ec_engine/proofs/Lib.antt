@@ -1,0 +1,14 @@
+pub mod Structures
+pub mod Rise
+pub mod Models
+pub mod Texts
+pub mod Atoms
+pub mod Branches
+pub mod Numbered
+pub mod AtomForms
+pub mod NameLines
+pub mod Narratives
+pub mod Counts
+pub mod Outcomes
+pub mod Readings
+pub mod Spellings
