@@ -1,0 +1,11 @@
+//! The top call over files and sinks in memory, row by row. It holds tests alone.
+#![tactic(auto)]
+
+#[cfg(test)]
+mod faults;
+#[cfg(test)]
+mod pieces;
+#[cfg(test)]
+mod rows;
+#[cfg(test)]
+mod words;

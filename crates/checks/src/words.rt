@@ -1,0 +1,11 @@
+//! The words of a line.
+use std::alloc::Global;
+use std::test::Fail;
+
+pub fn words(alloc: Global, line: &str) -> Result<Vec<String>, Fail> {
+    let mut words = Vec::new(alloc);
+    for word in line.split_whitespace() {
+        words.push(String::from_str(alloc, word)?)?;
+    }
+    Ok(words)
+}

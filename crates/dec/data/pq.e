@@ -1,0 +1,3 @@
+predicate P()
+predicate Q()
+P() -> Q().

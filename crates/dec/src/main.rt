@@ -1,0 +1,31 @@
+//! The program `dec`: its words, the real files and standard output go to the top call.
+//!
+//! It ends with the number of the status that the top call answers, or with 8 where the system does
+//! not give the words. No clause speaks of it: these few lines are the trusted edge.
+#![tactic(auto)]
+
+use ec_command::run;
+use ec_edge::{HostFiles, HostOut};
+use std::alloc::Global;
+use std::process::ExitCode;
+use std::rt::Env;
+use std::{env, io};
+
+/// The words behind the program's name.
+fn words<R: Env + AllocGlobal>(rt: &R, alloc: Global) -> io::Result<Vec<String>> {
+    let mut words = Vec::new(alloc);
+    for word in env::args(rt)?.skip(1) {
+        words.push(word)?;
+    }
+    Ok(words)
+}
+
+fn main(rt: HostRuntime) -> ExitCode {
+    let alloc = rt.alloc();
+    let Ok(words) = words(&rt, alloc) else {
+        return ExitCode::from(8);
+    };
+    let mut files = HostFiles::new(&rt);
+    let mut out = HostOut::new(&rt);
+    ExitCode::from(run(alloc, &words, &mut files, &mut out).number())
+}
