@@ -1,6 +1,7 @@
 -- What a list put is what the run puts.
 use Rattle.std.proofs.Common.{◌≡◌, ◌⊎◌, inl, inr, ℕ, List, ◌++◌, Option, Some, None, codes}
 use Rattle.ec_edge.specs.Pieces.{AppendsPrefix}
+use Rattle.ec_syntax.specs.declared.book.Refusal.{Refusal}
 use Rattle.ec_engine.specs.declared.listing.ListEnd.{ListEnd}
 use Rattle.ec_engine.specs.declared.listing.ListEnd.TheVariants as end
 use Rattle.ec_engine.specs.List.{IsDue, PutsPrefix, IsAnswered}
@@ -37,3 +38,11 @@ module _ (words : List (List ℕ)) (held : List ℕ → Option (List ℕ)) (file
   list_run before after end.Files p = p
   list_run before after end.Out p = part before after p
   list_run before after end.Memory p = nothing_or_part before after p
+
+-- a refused status is that of a refusal
+pub refused_end : (answer : ListEnd) → status_of answer ≡ status.Refused → (r : Refusal) × (answer ≡ end.Refused r)
+refused_end (end.Complete count) h = absurd (cc)
+refused_end (end.Refused r) h = (r, λ i. end.Refused r)
+refused_end end.Files h = absurd (cc)
+refused_end end.Out h = absurd (cc)
+refused_end end.Memory h = absurd (cc)

@@ -1,6 +1,8 @@
 -- What a call of the program is to put, and what it put.
 use Rattle.std.specs.Prelude.{ℕ, ◌≡◌, ◌⊎◌, List, ◌++◌, Option, Some, None, codes}
+use Rattle.ec_edge.specs.Causes.{Rose}
 use Rattle.ec_edge.specs.Pieces.{AppendsPrefix}
+use Rattle.ec_engine.specs.Refusals.{refusal_line}
 use Rattle.ec_syntax.specs.declared.book.Refusal.{Refusal}
 use Rattle.ec_engine.specs.declared.listing.ListEnd.TheVariants as end
 use Rattle.ec_engine.specs.List.{IsDue}
@@ -29,6 +31,23 @@ pub record PutsPart (words : List (List ℕ)) (held : List ℕ → Option (List 
   pub text : List ℕ
   pub due : IsDueFor words held answered text
   pub put : AppendsPrefix text before after
+
+-- The line of a refusal was put, and one that says that a file isn't there only where the absences rose.
+pub record PutsRefusal (before after : List ℕ) (absences_before absences_after : ℕ) : Type 0 where
+  pub refusal : Refusal
+  pub put : after ≡ before ++ refusal_line refusal
+  pub absent : refusal.code ≡ 1 → Rose absences_before absences_after
+
+-- the answers to words that are no job
+abbrev pub IsNoJobAnswer : Status → Type 0
+IsNoJobAnswer status.Complete = ⊥
+IsNoJobAnswer status.Limit = ⊥
+IsNoJobAnswer status.Refused = ⊥
+IsNoJobAnswer status.No = ⊥
+IsNoJobAnswer status.FilesFault = ⊥
+IsNoJobAnswer status.OutFault = Unit {0}
+IsNoJobAnswer status.Usage = Unit {0}
+IsNoJobAnswer status.NoMemory = Unit {0}
 
 -- What was put, by the status.
 abbrev pub IsRun : List (List ℕ) → (List ℕ → Option (List ℕ)) → List ℕ → List ℕ → Status → Type 0

@@ -5,7 +5,7 @@ ghost use Rattle.ec_edge.specs.Causes.{Rose};
 ghost use Rattle.ec_edge.specs.Pieces.{AllStay};
 ghost use Rattle.ec_engine.specs.List.{IsAnswered};
 ghost use Rattle.ec_command.specs.Ends.{status_of};
-ghost use Rattle.ec_command.specs.Run.{IsRun};
+ghost use Rattle.ec_command.specs.Run.{IsRun, IsNoJobAnswer, PutsRefusal};
 ghost use Rattle.ec_command.specs.Words.{job_of};
 
 use crate::status::Status;
@@ -31,7 +31,7 @@ fn status_of(end: &ListEnd) -> Status
 fn usage<O: Sink>(out: &mut O) -> Status
     ensures put { IsTrue (O.tells out.old) → (words : List (List ℕ)) (held : List ℕ → Option (List ℕ)) → job_of words ≡ None →
         IsRun words held (O.bytes out.old) (O.bytes out.new) result }
-    ensures files_fault { result ≡ Status.FilesFault → ⊥ }
+    ensures answers { IsNoJobAnswer result }
     ensures out_fault { result ≡ Status.OutFault → Rose (O.faults out.old) (O.faults out.new) }
 {
     match put_text(out, b"usage\n") {
@@ -57,6 +57,8 @@ fn do_job<F: Files, O: Sink>(alloc: Global, job: &Job, files: &mut F, out: &mut 
     ensures files_fault { result ≡ Status.FilesFault → Rose (F.faults files.old) (F.faults files.new) }
     ensures out_fault { result ≡ Status.OutFault → Rose (O.faults out.old) (O.faults out.new) }
     ensures no_usage { result ≡ Status.Usage → ⊥ }
+    ensures refused { IsTrue (O.tells out.old) → result ≡ Status.Refused →
+        PutsRefusal (O.bytes out.old) (O.bytes out.new) (F.absences files.old) (F.absences files.new) }
     ensures stays { AllStay (F.held files.old) (F.held files.new) }
 {
     let file = listed_file(job);
@@ -75,6 +77,9 @@ pub fn run<F: Files, O: Sink>(alloc: Global, words: &[String], files: &mut F, ou
     ensures files_fault { result ≡ Status.FilesFault → Rose (F.faults files.old) (F.faults files.new) }
     ensures out_fault { result ≡ Status.OutFault → Rose (O.faults out.old) (O.faults out.new) }
     ensures usage { result ≡ Status.Usage → job_of (map string_bytes words.now) ≡ None }
+    ensures no_job { job_of (map string_bytes words.now) ≡ None → IsNoJobAnswer result }
+    ensures refused { IsTrue (O.tells out.old) → result ≡ Status.Refused →
+        PutsRefusal (O.bytes out.old) (O.bytes out.new) (F.absences files.old) (F.absences files.new) }
     ensures stays { AllStay (F.held files.old) (F.held files.new) }
 {
     match read_words(alloc, words) {

@@ -1,12 +1,12 @@
 //! The command `list`.
-ghost use Rattle.std.specs.Prelude.{◌≡◌, ◌≤◌, ◌<◌, ◌^◌, length, List, ℕ, Option, Some, None, IsTrue, IfOk, IfNone, IfSome, MatchOption};
+ghost use Rattle.std.specs.Prelude.{◌≡◌, ◌≤◌, ◌<◌, ◌^◌, ◌++◌, length, List, ℕ, Option, Some, None, IsTrue, IfOk, IfNone, IfSome, MatchOption};
 ghost use Rattle.ec_edge.specs.Causes.{Rose};
 ghost use Rattle.ec_edge.specs.Pieces.{AllStay};
 ghost use Rattle.ec_engine.specs.FirstView.{first_view};
 ghost use Rattle.ec_engine.specs.List.{IsAnswered, IsDue, IsRefused};
 ghost use Rattle.ec_engine.specs.Outcome.{IsOutcome, LeadsTo, IsWholeAnswer};
 ghost use Rattle.ec_engine.specs.Propositions.{Propositions};
-ghost use Rattle.ec_engine.specs.Refusals.{of_file as refusal_of};
+ghost use Rattle.ec_engine.specs.Refusals.{of_file as refusal_of, refusal_line};
 ghost use Rattle.ec_engine.specs.Reading.{IsFirstText};
 
 use crate::first_text::FirstText;
@@ -79,6 +79,7 @@ fn put<O: Sink>(out: &mut O, text: &[u8], answer: ListEnd) -> ListEnd
     ensures files { result ≡ ListEnd.Files → ⊥ }
     ensures failed { result ≡ ListEnd.Out → Rose (O.faults out.old) (O.faults out.new) }
     ensures refused { (r : Refusal) → result ≡ ListEnd.Refused r → answer ≡ ListEnd.Refused r }
+    ensures line { IsTrue (O.tells out.old) → (r : Refusal) → result ≡ ListEnd.Refused r → O.bytes out.new ≡ O.bytes out.old ++ text.now }
 {
     match put_text(out, text) {
         Ok(()) => answer,
@@ -94,6 +95,7 @@ fn refuse<O: Sink>(alloc: Global, out: &mut O, refusal: Refusal) -> ListEnd
     ensures files { result ≡ ListEnd.Files → ⊥ }
     ensures failed { result ≡ ListEnd.Out → Rose (O.faults out.old) (O.faults out.new) }
     ensures refused { (r : Refusal) → result ≡ ListEnd.Refused r → r ≡ refusal }
+    ensures line { IsTrue (O.tells out.old) → (r : Refusal) → result ≡ ListEnd.Refused r → O.bytes out.new ≡ O.bytes out.old ++ refusal_line r }
 {
     match refusal_text(alloc, &refusal) {
         Ok(text) => put(out, &text, ListEnd::Refused(refusal)),
@@ -108,6 +110,7 @@ fn refuse_file<O: Sink>(alloc: Global, out: &mut O, code: u8, file: &str, name: 
     ensures files { result ≡ ListEnd.Files → ⊥ }
     ensures failed { result ≡ ListEnd.Out → Rose (O.faults out.old) (O.faults out.new) }
     ensures refused { (r : Refusal) → result ≡ ListEnd.Refused r → r.code ≡ code }
+    ensures line { IsTrue (O.tells out.old) → (r : Refusal) → result ≡ ListEnd.Refused r → O.bytes out.new ≡ O.bytes out.old ++ refusal_line r }
 {
     match of_file(alloc, code, file, name) {
         Ok(refusal) => refuse(alloc, out, refusal),
@@ -122,6 +125,7 @@ fn list_bytes<O: Sink>(alloc: Global, file: &str, bytes: &[u8], out: &mut O) -> 
     ensures files { result ≡ ListEnd.Files → ⊥ }
     ensures failed { result ≡ ListEnd.Out → Rose (O.faults out.old) (O.faults out.new) }
     ensures refused { (r : Refusal) → result ≡ ListEnd.Refused r → r.code ≡ 1 → ⊥ }
+    ensures line { IsTrue (O.tells out.old) → (r : Refusal) → result ≡ ListEnd.Refused r → O.bytes out.new ≡ O.bytes out.old ++ refusal_line r }
 {
     match outcome_of(alloc, file, bytes) {
         Ok(Outcome::Listed { count, text }) => put(out, &text, ListEnd::Complete(count)),
@@ -141,6 +145,7 @@ pub fn list<F: Files, O: Sink>(alloc: Global, files: &mut F, file: &str, out: &m
     ensures files { result ≡ ListEnd.Files → Rose (F.faults files.old) (F.faults files.new) }
     ensures failed { result ≡ ListEnd.Out → Rose (O.faults out.old) (O.faults out.new) }
     ensures absent { (r : Refusal) → result ≡ ListEnd.Refused r → r.code ≡ 1 → Rose (F.absences files.old) (F.absences files.new) }
+    ensures line { IsTrue (O.tells out.old) → (r : Refusal) → result ≡ ListEnd.Refused r → O.bytes out.new ≡ O.bytes out.old ++ refusal_line r }
     ensures stays { AllStay (F.held files.old) (F.held files.new) }
 {
     match read_whole(alloc, files, file, FILE_LIMIT) {
