@@ -121,8 +121,9 @@ fn precedence(rt: HostRuntime) -> Result<(), Fail> {
 #[test]
 fn usage_and_absence(rt: HostRuntime) -> Result<(), Fail> {
     let alloc = rt.alloc();
-    let rows: [(&str, &str, Status); 5] = [
+    let rows: [(&str, &str, Status); 6] = [
         ("", "usage\n", Status::Usage),
+        ("sample 41", "usage\n", Status::Usage),
         ("solve a.e", "usage\n", Status::Usage),
         ("list", "usage\n", Status::Usage),
         ("list t.e u.e", "usage\n", Status::Usage),
