@@ -97,17 +97,17 @@ module _ (signature : Signature) (valid : IsSignature signature) where
   time_extent : extent_at universe time_sort ≡ extent_of_range (range_of signature time_sort)
   time_extent = extent_integer signature time_sort (ap (row_passes (λ (row : SortRow). kind_is_integer row.kind)) (sort_row 2 _ (omega arith) refl))
 
-  event_extent : extent_at universe event_sort ≡ members (ground_events signature) (λ k. true)
+  pub event_extent : extent_at universe event_sort ≡ members (ground_events signature) (λ k. true)
   event_extent =
       let found = sort_row 4 _ (omega arith) refl in
       extent_of_sort signature event_sort (slice_get_within signature.sorts event_sort _ found) ∙ rw found refl
 
-  fluent_extent : extent_at universe fluent_sort ≡ members (ground_fluents signature) (λ k. true)
+  pub fluent_extent : extent_at universe fluent_sort ≡ members (ground_fluents signature) (λ k. true)
   fluent_extent =
       let found = sort_row 5 _ (omega arith) refl in
       extent_of_sort signature fluent_sort (slice_get_within signature.sorts fluent_sort _ found) ∙ rw found refl
 
-  passing_all : (from n : ℕ) → passing (λ k. true) from n ≡ n
+  pub passing_all : (from n : ℕ) → passing (λ k. true) from n ≡ n
   passing_all from zero = refl
   passing_all from (suc n) = ap suc (passing_all (suc from) n)
 

@@ -12,6 +12,7 @@ pub mod Numbers
 pub mod Numbering
 pub mod AtomOrder
 pub mod FewAtoms
+pub mod Counted
 pub mod MarkedBits
 pub mod InTurn
 pub mod Quantifiers

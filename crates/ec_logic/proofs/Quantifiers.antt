@@ -6,18 +6,11 @@ use Rattle.ec_logic.specs.Extent.{Extent}
 use Rattle.ec_logic.specs.Universe.{Universe, extent_at}
 use Rattle.ec_logic.specs.Place.{keeps, kept_values}
 use Rattle.ec_logic.specs.Truth.{Structure, truth}
+use Rattle.ec_logic.specs.InTurn.{truth_in_turn}
 use Rattle.ec_logic.specs.Turns.{turns, at_turn, values_from, before_others}
 use Rattle.ec_logic.proofs.InTurn.{values_from-start, values_from-end, values_from-step}
 
 module _ (universe : Universe) (m : Structure) (env : List ℤ) (f : Formula) where
-  -- the truth of the scope at a value, or a truth of its own where the binder doesn't range over it
-  abbrev pub truth_or : Bool → ℤ → Bool
-  truth_or outside v = if keeps universe (v ∷ env) 0 f then truth universe m (v ∷ env) f else outside
-
-  abbrev pub truth_in_turn : Bool → Option ℤ → Bool
-  truth_in_turn outside None = outside
-  truth_in_turn outside (Some v) = truth_or outside v
-
   module _ (extent : Extent) where
     -- the values from a turn on over which the binder ranges
     abbrev pub kept_from : ℕ → List ℤ
@@ -35,25 +28,25 @@ module _ (universe : Universe) (m : Structure) (env : List ℤ) (f : Formula) wh
     pub any_from_end : (k : ℕ) → turns extent ≤ k → any_from k ≡ false
     any_from_end k h = rw (values_from-end extent k h) refl
 
-    pub all_from_step : (k : ℕ) (t : Bool) → k < turns extent → t ≡ truth_in_turn true (at_turn extent k) → all_from k ≡ (t && all_from (k + 1))
+    pub all_from_step : (k : ℕ) (t : Bool) → k < turns extent → t ≡ truth_in_turn universe m env f true (at_turn extent k) → all_from k ≡ (t && all_from (k + 1))
     all_from_step k t h e = rw (values_from-step extent k h, e) (by_turn (at_turn extent k) (values_from extent (k + 1)))
       where
         by_test : (b : Bool) (v : ℤ) (vs : List ℤ) → list_all (λ w. truth universe m (w ∷ env) f) (if b then v ∷ vs else vs) ≡ ((if b then truth universe m (v ∷ env) f else true) && list_all (λ w. truth universe m (w ∷ env) f) vs)
         by_test true v vs = refl
         by_test false v vs = refl
 
-        by_turn : (o : Option ℤ) (vs : List ℤ) → list_all (λ w. truth universe m (w ∷ env) f) (filter (λ w. keeps universe (w ∷ env) 0 f) (before_others o vs)) ≡ (truth_in_turn true o && list_all (λ w. truth universe m (w ∷ env) f) (filter (λ w. keeps universe (w ∷ env) 0 f) vs))
+        by_turn : (o : Option ℤ) (vs : List ℤ) → list_all (λ w. truth universe m (w ∷ env) f) (filter (λ w. keeps universe (w ∷ env) 0 f) (before_others o vs)) ≡ (truth_in_turn universe m env f true o && list_all (λ w. truth universe m (w ∷ env) f) (filter (λ w. keeps universe (w ∷ env) 0 f) vs))
         by_turn None vs = refl
         by_turn (Some v) vs = by_test (keeps universe (v ∷ env) 0 f) v (filter (λ w. keeps universe (w ∷ env) 0 f) vs)
 
-    pub any_from_step : (k : ℕ) (t : Bool) → k < turns extent → t ≡ truth_in_turn false (at_turn extent k) → any_from k ≡ (t || any_from (k + 1))
+    pub any_from_step : (k : ℕ) (t : Bool) → k < turns extent → t ≡ truth_in_turn universe m env f false (at_turn extent k) → any_from k ≡ (t || any_from (k + 1))
     any_from_step k t h e = rw (values_from-step extent k h, e) (by_turn (at_turn extent k) (values_from extent (k + 1)))
       where
         by_test : (b : Bool) (v : ℤ) (vs : List ℤ) → list_any (λ w. truth universe m (w ∷ env) f) (if b then v ∷ vs else vs) ≡ ((if b then truth universe m (v ∷ env) f else false) || list_any (λ w. truth universe m (w ∷ env) f) vs)
         by_test true v vs = refl
         by_test false v vs = refl
 
-        by_turn : (o : Option ℤ) (vs : List ℤ) → list_any (λ w. truth universe m (w ∷ env) f) (filter (λ w. keeps universe (w ∷ env) 0 f) (before_others o vs)) ≡ (truth_in_turn false o || list_any (λ w. truth universe m (w ∷ env) f) (filter (λ w. keeps universe (w ∷ env) 0 f) vs))
+        by_turn : (o : Option ℤ) (vs : List ℤ) → list_any (λ w. truth universe m (w ∷ env) f) (filter (λ w. keeps universe (w ∷ env) 0 f) (before_others o vs)) ≡ (truth_in_turn universe m env f false o || list_any (λ w. truth universe m (w ∷ env) f) (filter (λ w. keeps universe (w ∷ env) 0 f) vs))
         by_turn None vs = refl
         by_turn (Some v) vs = by_test (keeps universe (v ∷ env) 0 f) v (filter (λ w. keeps universe (w ∷ env) 0 f) vs)
 

@@ -96,8 +96,8 @@ module _ (signature : Signature) (valid : IsSignature signature) where
     term_readable scope env s (variable k) w f b = let low = open_below (is_argument_of signature s) scope k f in let e = same_lengths signature scope env w in omega arith
     term_readable scope env s (int z) w f b = tt
     term_readable scope env s (constant c) w f b = tt
-    term_readable scope env s (event e ts) w f b = (f.1, terms_readable scope env _ ts w f.2 b)
-    term_readable scope env s (fluent e ts) w f b = (f.1, terms_readable scope env _ ts w f.2 b)
+    term_readable scope env s (event e ts) w f b = terms_readable scope env _ ts w f.2 b
+    term_readable scope env s (fluent e ts) w f b = terms_readable scope env _ ts w f.2 b
     term_readable scope env s (sum x y) w f b = (
       term_readable scope env integer_sort x w f.1 b.0,
       term_readable scope env integer_sort y w f.2 b.1,

@@ -25,6 +25,7 @@ pub mod Sorting
 pub mod Bound
 pub mod ValidTheory
 pub mod Turns
+pub mod InTurn
 pub mod Countable
 pub mod Reading
 pub mod Marks

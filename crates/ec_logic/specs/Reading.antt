@@ -1,4 +1,4 @@
--- What is read of a formula under an environment is there: each variable has a value, each symbol is known, and no sum, difference or
+-- What is read of a formula under an environment is there: each variable has a value, each predicate is known, and no sum, difference or
 -- product is past the limit, whatever values the binders take.
 use Rattle.std.specs.Prelude.{◌<◌, ◌≤◌, ℤ, pos, nat_abs, List, ◌∷◌, length}
 use Rattle.ec_logic.specs.Tree.{Term, variable, int, constant, event, fluent, sum, difference, product, Terms, no_terms, term, Formula, verum, falsum, atom, equal, less, negation, all_of, any_of, implies, iff, for_all, exists, Formulas, no_formulas, formula}
@@ -17,8 +17,8 @@ abbrev mutual
   IsReadableTerm signature env (variable k) = k < length env
   IsReadableTerm signature env (int z) = Unit {0}
   IsReadableTerm signature env (constant c) = Unit {0}
-  IsReadableTerm signature env (event symbol ts) = (symbol < length signature.events) × AreReadableTerms signature env ts
-  IsReadableTerm signature env (fluent symbol ts) = (symbol < length signature.fluents) × AreReadableTerms signature env ts
+  IsReadableTerm signature env (event symbol ts) = AreReadableTerms signature env ts
+  IsReadableTerm signature env (fluent symbol ts) = AreReadableTerms signature env ts
   IsReadableTerm signature env (sum a b) = IsReadableTerm signature env a × IsReadableTerm signature env b × IsSmall (value (universe_of signature) env (sum a b))
   IsReadableTerm signature env (difference a b) = IsReadableTerm signature env a × IsReadableTerm signature env b × IsSmall (value (universe_of signature) env (difference a b))
   IsReadableTerm signature env (product a b) = IsReadableTerm signature env a × IsReadableTerm signature env b × IsSmall (value (universe_of signature) env (product a b))

@@ -80,6 +80,9 @@ sums signature e f (row ∷ rows) =
 pub six_sorts : (signature : Signature) → BeginsBuiltIn signature → 6 ≤ length signature.sorts
 six_sorts signature h = let six : length (take 6 signature.sorts) ≡ 6 = rw h.sorts refl in let l = length-take 6 signature.sorts in omega arith
 
+pub six_predicates : (signature : Signature) → IsSignature signature → 6 ≤ length signature.predicates
+six_predicates signature h = let six : length (take 6 signature.predicates) ≡ 6 = rw h.built_in_first.predicates refl in let l = length-take 6 signature.predicates in omega arith
+
 no_row : SortRow
 no_row = record { name = []; kind = plain; parent = None; range = None }
 

@@ -1,5 +1,5 @@
 //! Signatures.
-ghost use Rattle.std.specs.Prelude.{◌≡◌, ◌<◌, ◌^◌, true, min, map, IfOk, length, Some, slice_get, option_map};
+ghost use Rattle.std.specs.Prelude.{◌≡◌, ◌≤◌, ◌<◌, ◌^◌, true, min, map, IfOk, length, Some, slice_get, option_map};
 ghost use Rattle.ec_logic.specs.Signature.{time_sort};
 ghost use Rattle.ec_logic.specs.Extent.{size_of};
 ghost use Rattle.ec_logic.specs.Universe.{extent_at, is_constant_in, tuples, universe_of};
@@ -79,8 +79,10 @@ impl Signature {
     }
 
     /// The number of predicates.
+    #[tactic(auto, using(crate::proofs::TableLemmas::six_predicates))]
     pub fn predicates(&self) -> u32
         ensures count { result ≡ length self.now.predicates }
+        ensures built_in { 6 ≤ result }
         ensures valid { IsSignature self.now }
     {
         self.rows.predicates.len() as u32

@@ -1,0 +1,4 @@
+pub mod Listing
+pub mod Firsts
+pub mod Table
+pub mod Numbering
