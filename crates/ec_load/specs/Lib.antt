@@ -1,0 +1,6 @@
+pub mod Refusals
+pub mod Opening
+pub mod Book
+pub mod Sound
+pub mod Gathered
+pub mod Answers
