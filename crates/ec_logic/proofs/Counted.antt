@@ -46,7 +46,7 @@ module _ (signature : Signature) (a b c d : ℕ) where
       let size : size_of (extent_at (universe_with signature a b) s) ≡ size_of (extent_at (universe_with signature c d) s) = ap size_of (with_extent a b s here.0 ∙ (same_extent s here.1 ∙ sym (with_extent c d s here.0))) in
       rw (size, same_tuples ss (λ i r e. h (suc i) r e)) refl
 
-  same_count : (rows : List SymbolRow) → ((k : ℕ) (row : SymbolRow) → slice_get rows k ≡ Some row → (i s : ℕ) → slice_get row.sorts i ≡ Some s → (s < length signature.sorts) × (is_reified_sort signature s ≡ false))
+  pub same_count : (rows : List SymbolRow) → ((k : ℕ) (row : SymbolRow) → slice_get rows k ≡ Some row → (i s : ℕ) → slice_get row.sorts i ≡ Some s → (s < length signature.sorts) × (is_reified_sort signature s ≡ false))
       → before (universe_with signature a b) (argument_sorts rows) (length (argument_sorts rows)) ≡ before (universe_with signature c d) (argument_sorts rows) (length (argument_sorts rows))
   same_count [] h = refl
   same_count (row ∷ rows) h = rw (same_tuples row.sorts (h 0 row refl), same_count rows (λ k r e. h (suc k) r e)) refl
