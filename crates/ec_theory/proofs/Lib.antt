@@ -3,3 +3,4 @@ pub mod ParentLemmas
 pub mod SizeLemmas
 pub mod TableLemmas
 pub mod DomainLemmas
+pub mod CountLemmas

@@ -1,5 +1,5 @@
 -- Counting, and stopping at 2^62.
-use Rattle.std.proofs.Common.{◌≡◌, List, length, get_or, drop, slice_get, unwrap_or, ℕ, zero, suc, ◌+◌, ◌-◌, ◌*◌, ◌<◌, ◌≤◌, ◌^◌, Bool, true, false, nat_le, ℤ, pos, neg_ℤ, ◌+ℤ◌, ◌≤ℤ◌, int_le, Some, ◌&&◌, refl, sym, ap, ◌∙◌, arith}
+use Rattle.std.proofs.Common.{◌≡◌, List, length, get_or, drop, slice_get, unwrap_or, ℕ, zero, suc, ◌+◌, ◌*◌, ◌<◌, ◌≤◌, ◌^◌, Bool, true, false, nat_le, ℤ, pos, neg_ℤ, ◌+ℤ◌, ◌≤ℤ◌, int_le, Some, ◌&&◌, refl, sym, ap, ◌∙◌, arith}
 use Rattle.std.proofs.lemmas.Bool.Decides.{nat_tests}
 use Rattle.std.proofs.lemmas.Int.{ints}
 use Rattle.ec_logic.proofs.Tests.{and_parts}
@@ -9,16 +9,6 @@ use Rattle.ec_logic.specs.Valid.{is_range, range_limit}
 use Rattle.std.proofs.lemmas.List.{drop_more, drop_all}
 use Rattle.ec_logic.specs.Signature.{SymbolRow}
 use Rattle.ec_theory.specs.Sizes.{stopped, product_of_sizes, sum_of_products}
-
-module _ (test : ℕ → Bool) where
-  pub passing_yes : (n i : ℕ) → i < n → test i ≡ true → passing test i (n - i) ≡ 1 + passing test (i + 1) (n - (i + 1))
-  passing_yes n i l h = let k : n - i ≡ suc (n - (i + 1)) = omega arith in let s : i + 1 ≡ suc i = omega arith in rw (k, h, s) (omega arith)
-
-  pub passing_no : (n i : ℕ) → i < n → test i ≡ false → passing test i (n - i) ≡ passing test (i + 1) (n - (i + 1))
-  passing_no n i l h = let k : n - i ≡ suc (n - (i + 1)) = omega arith in let s : i + 1 ≡ suc i = omega arith in rw (k, h, s) refl
-
-  pub passing_end : (n i : ℕ) → n ≡ i → passing test i (n - i) ≡ 0
-  passing_end n i e = let k : n - i ≡ 0 = omega arith in rw k refl
 
 pub passing_all : (from n : ℕ) → passing (λ k. true) from n ≡ n
 passing_all from zero = refl

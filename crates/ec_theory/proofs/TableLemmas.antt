@@ -4,13 +4,15 @@ use Rattle.std.specs.List.{range_with_len}
 use Rattle.std.proofs.lemmas.Bool.Decides.{nat_tests}
 use Rattle.std.proofs.lemmas.List.{length-take, length-set, get_or-set_same, get_or-set_other}
 use Rattle.std.proofs.lemmas.List.FromFn.{get_or-map-range_with_len, length-map-range_with_len}
-use Rattle.std.proofs.lemmas.Option.{slice_get-map, slice_get-get_or}
+use Rattle.std.proofs.lemmas.Option.{slice_get-map, slice_get-get_or, slice_get_within}
 use Rattle.std.proofs.lemmas.Grind.{same_number_lists}
 use Rattle.ec_logic.specs.Signature.{Signature, SortRow, SymbolRow, Kind, plain, integer, event_kind, fluent_kind}
 use Rattle.ec_logic.specs.Extent.{size_of, passing, members}
 use Rattle.ec_logic.specs.Universe.{extent_at, extent_of, extent_of_range, is_constant_in, universe_with, tuples, before, argument_sorts, no_values, ground_terms, universe_of}
 use Rattle.ec_logic.specs.Valid.{IsSignature, BeginsBuiltIn, kind_is_event, kind_is_fluent}
 use Rattle.ec_theory.specs.Sizes.{stopped, sizes_with, product_of_sizes, sum_of_products, IsSized}
+use Rattle.ec_theory.specs.Counts.{AreCounts}
+use Rattle.ec_theory.proofs.CountLemmas.{passing_few}
 use Rattle.ec_theory.proofs.SizeLemmas.{stopped_small, stopped_times, passing_all}
 
 -- ---- the extent of a sort by its kind
@@ -29,8 +31,16 @@ module _ (signature : Signature) (events fluents s : ℕ) (row : SortRow) (h : s
   extent_fluent k = rw (h, k) refl
 
 module _ (signature : Signature) (s : ℕ) where
-  pub size_plain : (row : SortRow) (n : ℕ) → slice_get signature.sorts s ≡ Some row → row.kind ≡ plain → n ≡ passing (is_constant_in signature s) 0 (length signature.constants) → n < 2 ^ 32 → n ≡ stopped (size_of (extent_of signature 0 0 s))
-  size_plain row n h k e l = rw (extent_plain signature 0 0 s row h k, ← e) (sym (stopped_small n l))
+  -- a sort that there is has a number below their count, and a place among the counts
+  pub sort_counted : (row : SortRow) (counts : List ℕ) (n : ℕ) → slice_get signature.sorts s ≡ Some row → AreCounts signature n counts → s < length counts
+  sort_counted row counts n h c = let l : s < length signature.sorts = slice_get_within signature.sorts s row h in rw c.each_sort l
+
+  pub size_plain : (row : SortRow) (counts : List ℕ) (n : ℕ) → slice_get signature.sorts s ≡ Some row → row.kind ≡ plain → AreCounts signature (length signature.constants) counts → length signature.constants < 2 ^ 31 → n ≡ get_or counts s 0 → n ≡ stopped (size_of (extent_of signature 0 0 s))
+  size_plain row counts n h k c few e =
+      let l : s < length signature.sorts = slice_get_within signature.sorts s row h in
+      let counted : n ≡ passing (is_constant_in signature s) 0 (length signature.constants) = e ∙ c.counted s l in
+      let small = passing_few (is_constant_in signature s) 0 (length signature.constants) in
+      rw (extent_plain signature 0 0 s row h k, ← counted) (sym (stopped_small n (omega arith)))
 
   pub size_integer : (row : SortRow) (n : ℕ) → slice_get signature.sorts s ≡ Some row → row.kind ≡ integer → n ≡ size_of (extent_of_range row.range) → n < 2 ^ 32 → n ≡ stopped (size_of (extent_of signature 0 0 s))
   size_integer row n h k e l = rw (extent_integer signature 0 0 s row h k, ← e) (sym (stopped_small n l))

@@ -3,3 +3,4 @@ pub mod Rows
 pub mod Sizes
 pub mod Theories
 pub mod Values
+pub mod Counts

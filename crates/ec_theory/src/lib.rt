@@ -6,6 +6,7 @@
 #![tactic(auto)]
 
 mod copies;
+mod counts;
 mod domains;
 mod formula;
 mod parents;

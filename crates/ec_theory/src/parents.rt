@@ -6,7 +6,8 @@ ghost use Rattle.ec_theory.specs.Rows.{signature_of};
 
 use crate::rows::SignatureRows;
 
-fn parent_of_sort(rows: &SignatureRows, sort: u32) -> Option<u32>
+/// The sort whose subsort a sort is, if there is one.
+pub(crate) fn parent_of_sort(rows: &SignatureRows, sort: u32) -> Option<u32>
     ensures { result ≡ parent_of (signature_of rows.now) sort }
 {
     match rows.sorts.get(sort as usize) {

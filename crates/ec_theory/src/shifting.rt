@@ -1,5 +1,5 @@
 //! Formulas under more binders.
-ghost use Rattle.std.specs.Prelude.{◌≡◌, IfOk};
+ghost use Rattle.std.specs.Prelude.{◌≡◌, suc, ◌<◌, ◌^◌, IfOk};
 ghost use Rattle.ec_logic.specs.Tree.{variable};
 ghost use Rattle.ec_logic.specs.Shift.{shifted, shifted_each, shifted_term, shifted_terms, shifted_variable, KeepsTruth, KeepsPlaces};
 ghost use Rattle.ec_logic.specs.Reach.{CanShift, CanShiftEach, CanShiftTerm, CanShiftTerms};
@@ -63,11 +63,11 @@ fn shift_formula(
         ),
         Formula::ForAll { sort, scope } => Formula::ForAll {
             sort: *sort,
-            scope: shift_boxed(alloc, scope, from + 1, by)?,
+            scope: shift_under(alloc, scope, from, by)?,
         },
         Formula::Exists { sort, scope } => Formula::Exists {
             sort: *sort,
-            scope: shift_boxed(alloc, scope, from + 1, by)?,
+            scope: shift_under(alloc, scope, from, by)?,
         },
     })
 }
@@ -83,6 +83,21 @@ fn shift_boxed(
     ensures { IfOk result (λ r. formula_tree r.value ≡ shifted from by (formula_tree formula.now)) }
 {
     Ok(Box::new(alloc, shift_formula(alloc, formula, from, by)?)?)
+}
+
+// In the scope of one more binder.
+#[cycle(shift_formula)]
+fn shift_under(
+    alloc: Global,
+    scope: &Formula,
+    from: u32,
+    by: u32,
+) -> Result<Box<Formula>, AllocError>
+    requires room { suc from < 2 ^ 32 }
+    requires scope { CanShift (suc from) by (formula_tree scope.now) }
+    ensures { IfOk result (λ r. formula_tree r.value ≡ shifted (suc from) by (formula_tree scope.now)) }
+{
+    shift_boxed(alloc, scope, from + 1, by)
 }
 
 #[cycle(shift_formula)]

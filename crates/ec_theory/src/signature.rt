@@ -34,8 +34,8 @@ impl Model for Signature {
 }
 
 impl Signature {
-    /// The signature of these rows. Time and memory are linear in the rows, but for the counting of the
-    /// constants of each plain sort.
+    /// The signature of these rows. Memory is linear in the rows, and time in the rows and in the ancestors of
+    /// each constant's sort.
     pub fn new(alloc: Global, rows: SignatureRows) -> Result<Signature, AllocError>
         requires { IsSignature (signature_of rows) }
         ensures { IfOk result (λ s. s ≡ signature_of rows) }

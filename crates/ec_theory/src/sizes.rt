@@ -1,12 +1,13 @@
 //! The table of the sorts' sizes, made once for a signature.
 ghost use Rattle.std.specs.Prelude.{◌≡◌, ◌≤◌, ◌<◌, ◌+◌, ◌*◌, ◌^◌, true, IfOk, IfSome, IfNone, length, map, option_map, slice_get, unwrap_or, pos, neg_ℤ, ◌+ℤ◌, ◌≤ℤ◌};
-ghost use Rattle.ec_logic.specs.Extent.{size_of, passing};
-ghost use Rattle.ec_logic.specs.Universe.{extent_of, extent_of_range, is_constant_in};
+ghost use Rattle.ec_logic.specs.Extent.{size_of};
+ghost use Rattle.ec_logic.specs.Universe.{extent_of, extent_of_range};
 ghost use Rattle.ec_logic.specs.Valid.{IsSignature, EachSort, is_range, range_limit};
+ghost use Rattle.ec_theory.specs.Counts.{AreCounts};
 ghost use Rattle.ec_theory.specs.Rows.{signature_of, sort_of, symbol_of};
 ghost use Rattle.ec_theory.specs.Sizes.{stopped, sizes_with, product_of_sizes as size_product, sum_of_products, IsSized};
 
-use crate::parents::is_constant_of;
+use crate::counts::constants_of_sorts;
 use crate::rows::{SignatureRows, SortKind, SortRow, SymbolRow};
 use std::alloc::{AllocError, Global};
 
@@ -51,21 +52,6 @@ fn range_size(range: Option<(i64, i64)>) -> u64
     }
 }
 
-#[tactic(auto, using(crate::proofs::SizeLemmas::passing_yes, crate::proofs::SizeLemmas::passing_no, crate::proofs::SizeLemmas::passing_end))]
-fn constants_in(rows: &SignatureRows, sort: u32) -> u64
-    requires { length rows.now.constants.items < 2 ^ 31 }
-    ensures count { result ≡ passing (is_constant_in (signature_of rows.now) sort) 0 (length rows.now.constants.items) }
-    ensures small { result < 2 ^ 32 }
-{
-    let mut count = 0;
-    for constant in 0..rows.constants.len() as u32 {
-        if is_constant_of(rows, constant, sort) {
-            count += 1;
-        }
-    }
-    count
-}
-
 fn sort_row(rows: &SignatureRows, sort: u32) -> Option<&SortRow>
     ensures found { IfSome result (λ row. slice_get (signature_of rows.now).sorts sort ≡ Some (sort_of row.now)) }
     ensures none { IfNone result (slice_get (signature_of rows.now).sorts sort ≡ None) }
@@ -87,16 +73,17 @@ pub(crate) fn range_at(rows: &SignatureRows, sort: u32) -> Option<(i64, i64)>
     }
 }
 
-// The size of a sort as long as no event and no fluent is counted.
-#[tactic(auto, using(crate::proofs::TableLemmas::size_plain, crate::proofs::TableLemmas::size_integer, crate::proofs::TableLemmas::size_event, crate::proofs::TableLemmas::size_fluent, crate::proofs::TableLemmas::size_none))]
-fn size_in(rows: &SignatureRows, sort: u32) -> u64
+// The size of a sort as long as no event and no fluent is counted, where the constants of each sort are counted.
+#[tactic(auto, using(crate::proofs::TableLemmas::size_integer, crate::proofs::TableLemmas::size_event, crate::proofs::TableLemmas::size_fluent, crate::proofs::TableLemmas::size_none, crate::proofs::TableLemmas::sort_counted))]
+fn size_in(rows: &SignatureRows, counts: &[u64], sort: u32) -> u64
     requires few { length rows.now.constants.items < 2 ^ 31 }
+    requires counts { AreCounts (signature_of rows.now) (length (signature_of rows.now).constants) counts.now }
     requires ranges { EachSort (signature_of rows.now) (λ s row. is_range row.range ≡ true) }
     ensures { result ≡ stopped (size_of (extent_of (signature_of rows.now) 0 0 sort)) }
 {
     match sort_row(rows, sort) {
         Some(row) => match row.kind {
-            SortKind::Plain => constants_in(rows, sort),
+            SortKind::Plain => counts[sort as usize],
             SortKind::Integer => range_size(row.range),
             SortKind::Event => 0,
             SortKind::Fluent => 0,
@@ -106,14 +93,13 @@ fn size_in(rows: &SignatureRows, sort: u32) -> u64
 }
 
 fn sizes_before_symbols(alloc: Global, rows: &SignatureRows) -> Result<Vec<u64>, AllocError>
-    requires few { length rows.now.constants.items < 2 ^ 31 }
-    requires sorts { length rows.now.sorts.items < 2 ^ 31 }
-    requires ranges { EachSort (signature_of rows.now) (λ s row. is_range row.range ≡ true) }
+    requires { IsSignature (signature_of rows.now) }
     ensures { IfOk result (λ v. v.items ≡ sizes_with (signature_of rows.now) 0 0) }
 {
+    let counts = constants_of_sorts(alloc, rows)?;
     let mut sizes = Vec::with_capacity(alloc, rows.sorts.len())?;
     for sort in 0..rows.sorts.len() as u32 {
-        sizes.push(size_in(rows, sort))?;
+        sizes.push(size_in(rows, &counts, sort))?;
     }
     Ok(sizes)
 }

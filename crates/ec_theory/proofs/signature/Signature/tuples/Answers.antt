@@ -1,4 +1,3 @@
-use Rattle.std.proofs.Common.{◌∙◌, ap}
 use Rattle.ec_theory.specs.Rows.{signature_of}
 use Rattle.ec_theory.proofs.TableLemmas.{sized_tuples}
 use Rattle.ec_theory.proofs.signature.Signature.tuples.Goals as goal
