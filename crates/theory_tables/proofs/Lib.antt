@@ -1,0 +1,2 @@
+pub mod SignatureTest
+pub mod SampleSignatures
