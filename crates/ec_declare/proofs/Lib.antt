@@ -1,0 +1,10 @@
+pub mod Gathering
+pub mod Deciding
+pub mod Places
+pub mod Facts
+pub mod Lines
+pub mod Numbers
+pub mod SortFields
+pub mod SymbolFields
+pub mod NameFields
+pub mod Validity
