@@ -1,0 +1,10 @@
+pub mod Kinds
+pub mod Faults
+pub mod Variables
+pub mod Trees
+pub mod Sentences
+pub mod Nested
+pub mod Answers
+pub mod Codes
+pub mod Scopes
+pub mod Measures
