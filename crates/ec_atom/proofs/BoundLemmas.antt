@@ -1,5 +1,5 @@
 -- Few visible atoms, and so few atoms.
-use Rattle.std.proofs.Common.{◌≡◌, ℕ, ◌<◌, ◌≤◌, ◌^◌, nat_lt, Bool, true, false, List, length, take, refl, sym, ap, subst, ◌∙◌, arith}
+use Rattle.std.proofs.Common.{◌≡◌, ℕ, ◌<◌, ◌≤◌, ◌^◌, nat_lt, Bool, true, false, List, length, sym, subst, ◌∙◌, arith}
 use Rattle.std.proofs.lemmas.Bool.Decides.{nat_tests}
 use Rattle.ec_logic.specs.Signature.{Signature}
 use Rattle.ec_logic.specs.Universe.{universe_of}
@@ -10,10 +10,11 @@ use Rattle.ec_logic.proofs.AtomOrder.{total_within, place_in_order}
 use Rattle.ec_logic.proofs.FewAtoms.{few_atoms, six_predicates}
 use Rattle.ec_theory.proofs.TableLemmas as theory
 use Rattle.ec_atom.specs.declared.table.Values.{Values}
+use Rattle.ec_atom.specs.declared.blocks.Blocks.{Blocks}
 use Rattle.ec_atom.specs.Numbering.{IsNumbering}
 use Rattle.ec_atom.proofs.NumberLemmas.{first_in_order}
 
-module _ (signature : Signature) (tables : List Values) (firsts : List ℕ) (numbering : IsNumbering signature tables firsts) where
+module _ (signature : Signature) (tables : List Values) (events fluents predicates : Blocks) (numbering : IsNumbering signature tables events fluents predicates) where
   few_in_all : total (universe_of signature) (predicates_in_order (universe_of signature)) < 2 ^ 62
   few_in_all = few_atoms signature numbering.valid numbering.few
 

@@ -2,3 +2,9 @@ pub mod PlaceLemmas
 pub mod NumberLemmas
 pub mod MakingLemmas
 pub mod BoundLemmas
+pub mod StrideLemmas
+pub mod BlockLemmas
+pub mod SymbolLemmas
+pub mod SeenLemmas
+pub mod AtomLaws
+pub mod CallLemmas

@@ -1,13 +1,13 @@
 -- Tables made constant by constant, and the extents that they are of.
-use Rattle.std.proofs.Common.{◌≡◌, ℕ, zero, suc, ◌+◌, ◌-◌, ◌<◌, ◌≤◌, ◌^◌, ◌==◌, min, Bool, true, false, if◌then◌else◌, ℤ, pos, List, [], ◌∷◌, ◌++◌, length, map, filter, slice_get, unwrap_or, Option, Some, None, option_map, ◌⊎◌, inl, inr, refl, sym, ap, ◌∙◌, arith}
+use Rattle.std.proofs.Common.{◌≡◌, ℕ, zero, suc, ◌+◌, ◌<◌, ◌≤◌, ◌^◌, ◌==◌, min, Bool, true, false, ℤ, List, [], ◌∷◌, ◌++◌, length, map, filter, slice_get, Option, Some, None, option_map, ◌⊎◌, inl, inr, refl, sym, ap, ◌∙◌, arith}
 use Rattle.std.specs.List.{range_with_len}
 use Rattle.std.proofs.lemmas.List.{append-nil}
 use Rattle.std.proofs.lemmas.List.Elements.{filter-append}
 use Rattle.std.proofs.lemmas.List.FromFn.{map-range_with_len_more}
-use Rattle.std.proofs.lemmas.Option.{slice_get_past, slice_get_within}
+use Rattle.std.proofs.lemmas.Option.{slice_get_past}
 use Rattle.std.proofs.lemmas.Bool.Decides.{nat_tests}
 use Rattle.ec_logic.specs.Signature.{Signature, SortRow, Kind, plain, integer, event_kind, fluent_kind, event_sort, fluent_sort}
-use Rattle.ec_logic.specs.Extent.{Extent, members, passing, size_of}
+use Rattle.ec_logic.specs.Extent.{members, passing, size_of}
 use Rattle.ec_logic.specs.Universe.{universe_of, extent_at, extent_of_range, is_constant_in}
 use Rattle.ec_logic.specs.Valid.{IsSignature, kind_is_event, kind_is_fluent}
 use Rattle.ec_logic.proofs.Tuples.{passing_sum}

@@ -1,10 +1,10 @@
 -- Atoms counted place by place.
-use Rattle.std.proofs.Common.{◌≡◌, ℕ, zero, suc, ◌+◌, ◌-◌, ◌<◌, ◌≤◌, ◌^◌, min, Bool, true, false, List, [], ◌∷◌, ◌++◌, length, map, take, get_or, slice_get, unwrap_or, Option, Some, None, option_map, refl, sym, ap, ◌∙◌, arith}
+use Rattle.std.proofs.Common.{◌≡◌, ℕ, suc, ◌+◌, ◌-◌, ◌<◌, ◌≤◌, ◌^◌, min, List, [], ◌∷◌, ◌++◌, length, map, take, get_or, slice_get, unwrap_or, Some, option_map, refl, sym, ap, ◌∙◌, arith}
 use Rattle.std.specs.List.{range_with_len}
 use Rattle.std.proofs.lemmas.Option.{slice_get-map}
 use Rattle.std.proofs.lemmas.List.FromFn.{map-range_with_len_more, get_or-map-range_with_len, length-map-range_with_len}
 use Rattle.ec_logic.specs.Signature.{Signature, SymbolRow}
-use Rattle.ec_logic.specs.Universe.{Universe, universe_of, argument_sorts, row_of, tuples}
+use Rattle.ec_logic.specs.Universe.{Universe, universe_of, argument_sorts, tuples}
 use Rattle.ec_logic.specs.Atom.{all_atoms, atoms_before, visible_atoms, tuples_of, predicates_in_order, visible_predicates}
 use Rattle.ec_logic.specs.Total.{total}
 use Rattle.ec_logic.proofs.Numbering.{visible_count, all_count}

@@ -1,4 +1,6 @@
 pub mod Listing
-pub mod Firsts
 pub mod Table
 pub mod Numbering
+pub mod Blocks
+pub mod Symbols
+pub mod Ground

@@ -1,18 +1,23 @@
 //! The tables of a numbering.
-ghost use Rattle.std.specs.Prelude.{◌≡◌, ◌≤◌, ◌<◌, ◌^◌, ◌+◌, ◌-◌, ◌+ℤ◌, min, map, true, pos, IfOk, length, take, filter};
+ghost use Rattle.std.specs.Prelude.{◌≡◌, ◌≤◌, ◌<◌, ◌^◌, ◌+◌, ◌-◌, ◌+ℤ◌, min, map, true, pos, IfOk, length, take, drop, filter};
 ghost use Rattle.std.specs.List.{range_with_len};
-ghost use Rattle.ec_logic.specs.Atom.{predicates_in_order, visible_predicates, tuples_of as atoms_of};
+ghost use Rattle.ec_logic.specs.Atom.{visible_predicates, tuples_of as atoms_of};
 ghost use Rattle.ec_logic.specs.Extent.{members, passing, size_of as extent_size};
 ghost use Rattle.ec_logic.specs.Signature.{event_sort, fluent_sort};
 ghost use Rattle.ec_logic.specs.Total.{total};
-ghost use Rattle.ec_logic.specs.Universe.{universe_of, extent_at, extent_of_range, is_constant_in};
+ghost use Rattle.ec_logic.specs.Universe.{universe_of, before, extent_at, extent_of_range, is_constant_in};
 ghost use Rattle.ec_logic.specs.Valid.{IsSignature, is_plain_sort, is_range};
 ghost use Rattle.ec_logic.proofs.AtomOrder.{predicate_at as at_place};
+ghost use Rattle.ec_atom.specs.Blocks.{with_strides, AreBlocksOf};
 ghost use Rattle.ec_atom.specs.Listing.{place_if};
 ghost use Rattle.ec_atom.specs.Numbering.{AreTables, IsTableOf};
+ghost use Rattle.ec_atom.specs.Symbols.{rows_of};
 ghost use Rattle.ec_atom.specs.Table.{extent_of_values, IsTable};
 
+use crate::blocks::{Argument, Blocks};
+use crate::kinds::Symbols;
 use crate::order::predicate_at;
+use crate::symbols::{count_of, sorts_at};
 use crate::table::Values;
 use ec_theory::{Signature, SortKind, size_of, tuples_of};
 use std::alloc::{AllocError, Global};
@@ -48,22 +53,53 @@ pub fn count_visible(signature: &Signature) -> u64
     sum
 }
 
-/// How many atoms stand before each place of the order, and in all.
-#[tactic(auto, using(crate::proofs::NumberLemmas::total_step, crate::proofs::NumberLemmas::first_next))]
-pub fn firsts_of(alloc: Global, signature: &Signature) -> Result<Vec<u64>, AllocError>
-    requires many { 6 ≤ length signature.now.predicates }
-    requires few { total (universe_of signature.now) (predicates_in_order (universe_of signature.now)) < 2 ^ 62 }
-    ensures { IfOk result (λ v. v.items ≡ map (λ i. total (universe_of signature.now) (take i (predicates_in_order (universe_of signature.now)))) (range_with_len 0 (length signature.now.predicates + 1))) }
+fn from_place(sorts: &[u32], place: usize) -> &[u32]
+    requires { place ≤ length sorts.now }
+    ensures { result.now ≡ drop place sorts.now }
 {
-    let count = signature.predicates();
+    &sorts[place..]
+}
+
+// The arguments of these sorts, each with its stride.
+#[tactic(auto, using(crate::proofs::BlockLemmas::stride_next, crate::proofs::BlockLemmas::stride_end))]
+fn arguments_of(
+    alloc: Global,
+    signature: &Signature,
+    sorts: &[u32],
+) -> Result<Vec<Argument>, AllocError>
+    ensures { IfOk result (λ row. row.items ≡ with_strides (universe_of signature.now) sorts.now) }
+{
+    let mut row = Vec::with_capacity(alloc, sorts.len())?;
+    for (i, sort) in sorts.iter().enumerate() {
+        row.push(Argument {
+            sort: *sort,
+            stride: tuples_of(signature, from_place(sorts, i + 1)),
+        })?;
+    }
+    Ok(row)
+}
+
+/// The tuples of symbols, by number. Linear in the symbols, and for each in the square of its arguments.
+pub fn blocks_of(
+    alloc: Global,
+    signature: &Signature,
+    symbols: Symbols,
+) -> Result<Blocks, AllocError>
+    requires { before (universe_of signature.now) (rows_of (universe_of signature.now) symbols) (length (rows_of (universe_of signature.now) symbols)) < 2 ^ 62 }
+    ensures { IfOk result (λ blocks. AreBlocksOf (universe_of signature.now) (rows_of (universe_of signature.now) symbols) blocks) }
+{
+    let count = count_of(signature, symbols);
     let mut firsts = Vec::with_capacity(alloc, count as usize + 1)?;
+    let mut rows = Vec::with_capacity(alloc, count as usize)?;
     let mut sum: u64 = 0;
     firsts.push(sum)?;
     for place in 0..count {
-        sum += atoms_at(signature, place);
+        let sorts = sorts_at(signature, symbols, place);
+        rows.push(arguments_of(alloc, signature, sorts)?)?;
+        sum += tuples_of(signature, sorts);
         firsts.push(sum)?;
     }
-    Ok(firsts)
+    Ok(Blocks { firsts, rows })
 }
 
 fn values_of_range(range: Option<(i64, i64)>, size: u64) -> Values

@@ -1,5 +1,6 @@
-use Rattle.std.proofs.Common.{◌≡◌, ◌≤◌, length, arith}
+use Rattle.ec_logic.proofs.Counted.{countable}
 use Rattle.ec_logic.proofs.FewAtoms.{few_atoms, few_events, few_fluents}
+use Rattle.ec_atom.proofs.CallLemmas.{few_in_order}
 use Rattle.ec_atom.proofs.atoms.numbered.Goals as goal
 
 pub tables_of-requires : goal.tables_of-requires
@@ -8,16 +9,21 @@ tables_of-requires c = record {
   fluents = few_fluents c.args.signature.now c.predicates-count.ensures.valid c.requires;
 }
 
-pub firsts_of-requires : goal.firsts_of-requires
-firsts_of-requires c = record {
-  many = omega (arith, c.predicates-count.ensures.count, c.predicates-count.ensures.built_in);
-  few = few_atoms c.args.signature.now c.predicates-count.ensures.valid c.requires;
-}
+pub blocks_of-requires : goal.blocks_of-requires
+blocks_of-requires c = (countable c.args.signature.now c.predicates-count.ensures.valid c.requires).events
+
+pub blocks_of-requires-2 : goal.blocks_of-requires-2
+blocks_of-requires-2 c = (countable c.args.signature.now c.predicates-count.ensures.valid c.requires).fluents
+
+pub blocks_of-requires-3 : goal.blocks_of-requires-3
+blocks_of-requires-3 c = few_in_order c.args.signature.now c.predicates-count.ensures.valid (few_atoms c.args.signature.now c.predicates-count.ensures.valid c.requires)
 
 pub invariant_of-result : goal.invariant_of-result
 invariant_of-result c = rw c.in_ok-copy.ensures (record {
   valid = c.predicates-count.ensures.valid;
   tables_are = c.in_ok-tables.ensures;
   few = c.requires;
-  firsts_are = c.in_ok-firsts.ensures;
+  events_are = c.in_ok-events.ensures;
+  fluents_are = c.in_ok-fluents.ensures;
+  predicates_are = c.in_ok-predicates.ensures;
 })

@@ -1,4 +1,4 @@
-use Rattle.std.proofs.Common.{◌≡◌, ◌+◌, length, arith}
+use Rattle.std.proofs.Common.{arith}
 use Rattle.std.proofs.lemmas.Grind.{common_steps}
 use Rattle.ec_atom.proofs.MakingLemmas.{tables_next}
 use Rattle.ec_atom.proofs.making.tables_of.Goals as goal

@@ -1,4 +1,3 @@
-use Rattle.std.proofs.Common.{◌≡◌, ◌<◌, ap, sym, ◌∙◌}
 use Rattle.ec_atom.proofs.MakingLemmas.{plain_extent, integer_extent, event_extent, fluent_extent}
 use Rattle.ec_atom.proofs.making.values_of.Goals as goal
 

@@ -1,4 +1,4 @@
-use Rattle.std.proofs.Common.{◌≡◌, ℕ, ◌+◌, ◌≤◌, arith, sym, ap, ◌∙◌, true, false, length, Some}
+use Rattle.std.proofs.Common.{◌≡◌, ℕ, ◌+◌, arith, sym, ap, ◌∙◌, true, false, length}
 use Rattle.std.proofs.lemmas.Grind.{common_steps}
 use Rattle.ec_logic.specs.Universe.{is_constant_in}
 use Rattle.ec_atom.proofs.PlaceLemmas.{passing_few}

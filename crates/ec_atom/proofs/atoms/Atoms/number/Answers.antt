@@ -1,4 +1,4 @@
-use Rattle.std.proofs.Common.{◌≡◌, refl}
+use Rattle.std.proofs.Common.{refl}
 use Rattle.ec_atom.proofs.BoundLemmas.{many_yes, many_no}
 use Rattle.ec_atom.proofs.atoms.Atoms.number.Goals as goal
 
