@@ -1,13 +1,13 @@
-//! Truth of formulas in a structure, and whether a structure is a minimal model, by the definitions of
-//! `ec_logic` and nothing faster.
+//! Truth of formulas in a structure, and what clause trees support in it, by the definitions of `ec_logic`
+//! and nothing faster.
 //!
-//! `holds` evaluates a sentence lazily and takes no memory. `least_effects` gives a group's atoms the
-//! truth that the group's sentences give them, and `is_minimal` tells whether each group's atoms are
-//! exactly those; both go over a clause tree once, each instance of its paths once. The crate stands on
-//! `ec_theory` for trees and signatures and on `ec_atom` for the numbers of atoms.
+//! `holds` evaluates a sentence lazily and takes no memory. `mark_supported` goes over a clause tree and
+//! marks the heads of the instances of its paths whose bodies are true, each instance once. The crate
+//! stands on `ec_theory` for trees and signatures and on `ec_atom` for the numbers of atoms.
 #![tactic(auto)]
 
 mod domains;
+mod marking;
 mod places;
 mod rows;
 mod scratch;
@@ -16,6 +16,7 @@ mod symbol;
 mod terms;
 mod truth;
 
+pub use marking::mark_supported;
 pub use scratch::Scratch;
 pub use structure::Structure;
 pub use truth::holds;

@@ -5,7 +5,7 @@ ghost use Rattle.ec_logic.specs.Universe.{extent_at, universe_of};
 ghost use Rattle.ec_logic.specs.Value.{values};
 ghost use Rattle.ec_logic.specs.Place.{kept_values};
 ghost use Rattle.ec_logic.specs.Truth.{truth, all_true, any_true};
-ghost use Rattle.ec_logic.specs.Atom.{structure_of};
+ghost use Rattle.ec_logic.specs.Atom.{number_of, structure_of};
 ghost use Rattle.ec_logic.specs.Turns.{turns, at_turn};
 ghost use Rattle.ec_logic.specs.InTurn.{truth_or, truth_in_turn};
 ghost use Rattle.ec_logic.specs.Countable.{IsCountable};
@@ -32,6 +32,27 @@ fn truth_of(truths: &[bool], atom: u64) -> bool
     }
 }
 
+/// The number of an atom whose arguments have these values, if each is in its domain.
+pub(crate) fn number_at(
+    signature: &Signature,
+    atoms: &Atoms,
+    env: &[i64],
+    predicate: u32,
+    args: &[Term],
+) -> Option<u64>
+    requires of { atoms.now ≡ signature.now }
+    requires countable { IsCountable (universe_of signature.now) }
+    requires known { predicate < length signature.now.predicates }
+    requires readable { AreReadableTerms signature.now env.now (term_trees args.now) }
+    ensures { result ≡ number_of (universe_of signature.now) predicate (values (universe_of signature.now) env.now (term_trees args.now)) }
+{
+    let first = atoms.first_of(predicate);
+    match tuple_place(signature, Symbol::Predicate(predicate), env, args) {
+        Some(place) => Some(first + place),
+        None => None,
+    }
+}
+
 fn atom_holds(
     signature: &Signature,
     atoms: &Atoms,
@@ -46,12 +67,8 @@ fn atom_holds(
     requires readable { AreReadableTerms signature.now env.now (term_trees args.now) }
     ensures { result ≡ structure_of (universe_of signature.now) truths.now predicate (values (universe_of signature.now) env.now (term_trees args.now)) }
 {
-    let first = atoms.first_of(predicate);
-    match tuple_place(signature, Symbol::Predicate(predicate), env, args) {
-        Some(place) => {
-            let atom = first + place;
-            truth_of(truths, atom)
-        }
+    match number_at(signature, atoms, env, predicate, args) {
+        Some(atom) => truth_of(truths, atom),
         None => false,
     }
 }
