@@ -143,6 +143,24 @@ impl Trail {
         }
     }
 
+    /// The place at which the variable's entry stands, from 0.
+    pub fn place_of(&self, variable: u32) -> Option<u32>
+        requires { variable ≤ self.now.variables }
+        ensures within { IfSome result (λ i. i < length self.now.entries) }
+        ensures there { IfSome result (λ i. IfSome (slice_get self.now.entries i) (λ e. e.lit.variable ≡ variable)) }
+        ensures trail { IsTrail self.now.variables self.now.entries }
+        ensures none { IsNone result ↔ (slice_index_or (truth_of self.now) variable None ≡ None) }
+    {
+        let place = self.places[variable as usize];
+        if place as usize >= self.entries.len() {
+            return None;
+        }
+        if self.entries[place as usize].lit.variable() != variable {
+            return None;
+        }
+        Some(place)
+    }
+
     fn entry_of(&self, variable: u32) -> Option<Entry>
         requires { variable ≤ self.now.variables }
         ensures { result ≡ entry_of self.now.entries variable }

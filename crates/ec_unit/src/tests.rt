@@ -1,6 +1,7 @@
 //! Settling to the end and to a conflict, with the trails worked out by hand.
 
-ghost use Rattle.std.specs.Prelude.{◌≡◌, ◌+◌, length};
+ghost use Rattle.std.specs.Prelude.{◌≡◌};
+ghost use Rattle.ec_unit.specs.Watching.{Watches};
 
 use crate::watch::{Settled, Watch};
 use ec_clause::clauses::{Clauses, is_clause};
@@ -17,10 +18,9 @@ fn literal(rt: &impl Abort, number: i32) -> Lit {
     Lit::new(number.unsigned_abs(), number > 0)
 }
 
-fn add(rt: &impl Abort, alloc: Global, clauses: &mut Clauses, numbers: &[i32]) -> u32
+/// Adds a clause to the list.
+fn add(rt: &impl Abort, alloc: Global, clauses: &mut Clauses, numbers: &[i32])
     ensures variables { clauses.new.variables ≡ clauses.old.variables }
-    ensures number { result ≡ length clauses.old.clauses + 1 }
-    ensures count { length clauses.new.clauses ≡ result }
 {
     let mut lits = Vec::new(alloc);
     for number in numbers {
@@ -28,7 +28,19 @@ fn add(rt: &impl Abort, alloc: Global, clauses: &mut Clauses, numbers: &[i32]) -
     }
     assert!(rt; is_clause(clauses.variables(), &lits));
     assert!(rt; clauses.len() < u32::MAX);
-    clauses.push(&lits).expect(rt, "memory")
+    clauses.push(&lits).expect(rt, "memory");
+}
+
+/// Adds a clause to the list and to those watched over.
+fn add_watched(rt: &impl Abort, clauses: &mut Clauses, watch: &mut Watch, lits: &[Lit])
+    requires watched { Watches clauses.old watch.old }
+    ensures watched { Watches clauses.new watch.new }
+    ensures variables { clauses.new.variables ≡ clauses.old.variables }
+{
+    assert!(rt; is_clause(clauses.variables(), lits));
+    assert!(rt; clauses.len() < u32::MAX);
+    let number = clauses.push(lits).expect(rt, "memory");
+    watch.add(clauses, number).expect(rt, "memory");
 }
 
 fn list_of(rt: &impl Abort, alloc: Global, rows: &[&[i32]]) -> Clauses {
@@ -82,7 +94,7 @@ fn settles_at_level_zero(rt: HostRuntime) {
     for (clauses, settled, rows) in table {
         let clauses = list_of(&rt, alloc, clauses);
         let mut trail = Trail::new(alloc, clauses.variables()).expect(&rt, "memory");
-        let mut watch = Watch::new(&clauses).expect(&rt, "memory");
+        let mut watch = Watch::new(alloc, &clauses).expect(&rt, "memory");
         assert!(rt; watch.settle(&clauses, &mut trail) == settled);
         stands(&rt, &trail, rows);
     }
@@ -93,7 +105,7 @@ fn settles_after_decisions_and_steps_back(rt: HostRuntime) {
     let alloc = rt.alloc();
     let mut clauses = list_of(&rt, alloc, &[&[-1, 2], &[-2, 3], &[1, 3, 4]]);
     let mut trail = Trail::new(alloc, clauses.variables()).expect(&rt, "memory");
-    let mut watch = Watch::new(&clauses).expect(&rt, "memory");
+    let mut watch = Watch::new(alloc, &clauses).expect(&rt, "memory");
     decide(&rt, &mut trail, 1);
     assert!(rt; watch.settle(&clauses, &mut trail) == Settled::Quiet);
     stands(
@@ -116,7 +128,9 @@ fn settles_after_decisions_and_steps_back(rt: HostRuntime) {
             (4, 1, Some(3)),
         ],
     );
-    let number = add(&rt, alloc, &mut clauses, &[2, -4]);
-    watch.add(&clauses, number).expect(&rt, "memory");
+    let lits = [literal(&rt, 2), literal(&rt, -4)];
+    add_watched(&rt, &mut clauses, &mut watch, &lits);
     assert!(rt; watch.settle(&clauses, &mut trail) == Settled::Conflict(4));
+    assert!(rt; clauses.len() == 4);
+    assert!(rt; watch.watched(4) == Some((lits[0], lits[1])));
 }

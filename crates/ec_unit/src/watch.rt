@@ -1,13 +1,19 @@
-//! Settling a trail by a scan of all clauses.
+//! Settling a trail by two watched literals in each clause.
 
-ghost use Rattle.std.specs.Prelude.{◌≡◌, ℕ, ◌+◌, ◌<◌, ◌≤◌, length, MatchOption, IfOk, OnOk, OnErr};
+ghost use Rattle.std.specs.Prelude.{◌≡◌, ℕ, ◌+◌, ◌-◌, ◌*◌, ◌<◌, ◌≤◌, length, MatchOption, IfOk, IfSome, IfNone, OnOk, OnErr, Some, None, All};
+ghost use Rattle.ec_clause.specs.ClauseList.{ClauseList, clause_at};
 ghost use Rattle.ec_trail.specs.TrailList.{truth_of};
 ghost use Rattle.ec_unit.specs.Settling.{AddsImplied, AllQuiet, IsFalseAt};
+ghost use Rattle.ec_unit.specs.Leaning.{Grows};
+ghost use Rattle.ec_unit.specs.Working.{AreChained, IsWorking, ShortHold, AllSafe, watched_of};
 
+use crate::seen::{agreeing, forget, see};
+use crate::table::{Table, add, empty, examine_short, take_up};
+use crate::visit::visit;
 use ec_clause::clauses::Clauses;
-use ec_clause::look::{Look, look_at};
+use ec_clause::lit::Lit;
 use ec_trail::trail::Trail;
-use std::alloc::AllocError;
+use std::alloc::{AllocError, Global};
 use std::marker::Model;
 
 /// How settling ended.
@@ -19,81 +25,126 @@ pub enum Settled {
     Conflict(u32),
 }
 
-/// What is kept of the clauses that are watched over: those with the numbers from 1 to its value.
+/// What is kept of the clauses that are watched over: two watched literals for each, in chains, and
+/// how far the trail was worked that was settled last.
 #[derive(Drop)]
 pub struct Watch {
-    clauses: u32,
+    table: Table,
 }
 
 impl Model for Watch {
-    ghost use Rattle.std.specs.Prelude.{ℕ};
+    ghost use Rattle.ec_unit.specs.Watching.{Watched};
+    ghost use Rattle.ec_unit.specs.Working.{IsTable, watched_of};
 
-    ghost Value = { ℕ };
+    ghost Value = { Watched };
 
-    ghost view = { λ a. a.clauses };
+    ghost view = { λ a. watched_of a.table };
+
+    ghost invariant = { λ a. IsTable a.table };
 }
 
 impl Watch {
     ghost use Rattle.ec_unit.specs.Settling.{Settles};
+    ghost use Rattle.ec_unit.specs.Watching.{Watched, Watches, WatchesUpTo, IsWatched, AreSafe, watched_at};
 
-    /// Watches over all clauses of the list.
-    pub fn new(clauses: &Clauses) -> Result<Watch, AllocError>
-        ensures { IfOk result (λ w. w ≡ length clauses.now.clauses) }
+    /// Watches over all clauses of the list. It takes 32 bytes a clause and 40 a variable.
+    pub fn new(alloc: Global, clauses: &Clauses) -> Result<Watch, AllocError>
+        ensures { IfOk result (Watches clauses.now) }
     {
-        Ok(Watch {
-            clauses: clauses.len(),
-        })
+        let mut table = empty(alloc, clauses.variables())?;
+        for index in 0..clauses.len() {
+            let number = index + 1;
+            add(
+                &mut table.chains.cells,
+                &mut table.short,
+                clauses.get(number),
+                number,
+            )?;
+        }
+        Ok(Watch { table })
     }
 
     /// Watches over one clause more, that of the next number.
     pub fn add(&mut self, clauses: &Clauses, number: u32) -> Result<(), AllocError>
-        requires next { number ≡ self.old + 1 }
+        requires low { 1 ≤ number }
         requires there { number ≤ length clauses.now.clauses }
-        ensures ok { OnOk result (self.new ≡ number) }
+        requires next { WatchesUpTo clauses.now (number - 1) self.old }
+        ensures ok { OnOk result (WatchesUpTo clauses.now number self.new) }
         ensures err { OnErr result (self.new ≡ self.old) }
     {
-        prove!(number <= clauses.len());
-        self.clauses = number;
+        let clause = clauses.get(number);
+        add(
+            &mut self.table.chains.cells,
+            &mut self.table.short,
+            clause,
+            number,
+        )?;
         Ok(())
     }
 
+    /// The two watched literals of a clause; none in a clause of fewer than two.
+    pub fn watched(&self, number: u32) -> Option<(Lit, Lit)>
+        requires low { 1 ≤ number }
+        requires high { 2 * number ≤ length self.now.watches }
+        ensures value { result ≡ watched_at self.now number }
+        ensures literals { (c : ClauseList) → Watches c self.now → IsWatched (clause_at c number) result }
+    {
+        let place = 2 * (number as usize - 1);
+        match self.table.chains.cells[place].lit {
+            None => None,
+            Some(first) => match self.table.chains.cells[place + 1].lit {
+                None => None,
+                Some(second) => Some((first, second)),
+            },
+        }
+    }
+
     /// Adds implied literals to the trail's level until a clause is false, or none is false or
-    /// unit. `clauses` is the list that is watched over. It takes no memory. Its time is that of
-    /// one look at each clause for each literal added, at worst.
+    /// unit. `clauses` is the list that is watched over. It takes no memory. Beside a comparison of
+    /// the trail with the one before it looks only at clauses of which a watched literal became
+    /// false, at those of fewer than two literals, and at those added since the last call.
     pub fn settle(&mut self, clauses: &Clauses, trail: &mut Trail) -> Settled
-        requires watched { length clauses.now.clauses ≡ self.old }
+        requires watched { Watches clauses.now self.old }
         requires variables { clauses.now.variables ≡ trail.old.variables }
-        ensures watched { self.new ≡ self.old }
+        ensures watched { Watches clauses.now self.new }
         ensures adds { AddsImplied clauses.now trail.old trail.new }
         ensures settles { Settles clauses.now (truth_of trail.new) result }
+        ensures safe { AreSafe self.new (length clauses.now.clauses) (truth_of trail.new) result }
     {
-        loop {
-            let before = trail.len();
-            if let Some(number) = pass(clauses, trail) {
-                return Settled::Conflict(number);
-            }
-            if trail.len() == before {
-                return Settled::Quiet;
-            }
+        let table = &mut self.table;
+        let front = agreeing(&table.seen, trail);
+        table.worked = forget(&mut table.seen, table.worked, front);
+        see(&mut table.seen, front, trail);
+        match work(table, clauses, trail) {
+            None => Settled::Quiet,
+            Some(number) => Settled::Conflict(number),
         }
     }
 }
 
-/// Looks at each clause once, up to the first that is false.
-fn pass(clauses: &Clauses, trail: &mut Trail) -> Option<u32>
-    requires { clauses.now.variables ≡ trail.old.variables }
+/// Works what is left of the trail, until a clause is false or all is worked.
+fn work(table: &mut Table, clauses: &Clauses, trail: &mut Trail) -> Option<u32>
+    requires working { IsWorking clauses.now table.old trail.old }
+    requires chained { AreChained table.old }
+    ensures working { IsWorking clauses.now table.new trail.new }
+    ensures chained { AreChained table.new }
     ensures adds { AddsImplied clauses.now trail.old trail.new }
-    ensures cases { MatchOption result
-        (length trail.new.entries ≡ length trail.old.entries → AllQuiet clauses.now (truth_of trail.new))
-        (IsFalseAt clauses.now (truth_of trail.new)) }
+    ensures some { IfSome result (IsFalseAt clauses.now (truth_of trail.new)) }
+    ensures quiet { IfNone result (AllQuiet clauses.now (truth_of trail.new)) }
+    ensures safe { IfNone result (AllSafe clauses.now table.new trail.new) }
 {
-    for index in 0..clauses.len() {
-        let number = index + 1;
-        match look_at(clauses.get(number), trail.values()) {
-            Look::False => return Some(number),
-            Look::OneLeft(lit) => trail.imply(lit, number),
-            Look::Other => {}
+    if let Some(number) = examine_short(&mut table.seen, &table.short, clauses, trail) {
+        return Some(number);
+    }
+    if let Some(number) = take_up(table, clauses, trail) {
+        return Some(number);
+    }
+    while table.worked < trail.len() {
+        let lit = trail.at(table.worked).opposite();
+        if let Some(number) = visit(table, clauses, trail, lit) {
+            return Some(number);
         }
+        table.worked += 1;
     }
     None
 }

@@ -1,0 +1,25 @@
+use Rattle.std.proofs.Common.{refl, ◌∙◌, subst}
+use Rattle.ec_clause.specs.Literal.{Literal}
+use Rattle.ec_clause.specs.Truth.{literal_value}
+use Rattle.ec_trail.specs.TrailList.{truth_of}
+use Rattle.ec_trail.proofs.BackTo.{some_entry}
+use Rattle.ec_unit.specs.Leaning.{Leans}
+use Rattle.ec_unit.proofs.Looked.{no_some, all_false, one_open, adds_one}
+use Rattle.ec_unit.proofs.visit.inspect.Goals as goal
+
+pub returns-in-Some-clause-step : goal.returns-in-Some-clause-step
+returns-in-Some-clause-step c =
+    let at = c.in-Some.ensures.some in
+    let lit = c.requires.follows.same c.in-Some.base some_entry at.within ∙ at.there some_entry in
+    subst (λ (l : Literal). Leans c.rest_on.new.seen.items l c.args.place) lit c.rest_on.ensures.leans
+
+pub returns-then-is_some-clause-step : goal.returns-then-is_some-clause-step
+returns-then-is_some-clause-step c =
+    all_false c.args.clauses.now (truth_of c.args.trail.now) c.args.number c.args.other c.requires.low c.requires.high (rw (← c.get-clause.ensures.value) c.in_default-replacement.ensures.none) (cc (c.is_some.ensures, c.if-is_some.true, c.value.ensures)) c.in_default.ensures.none
+
+pub returns-clause-adds : goal.returns-clause-adds
+returns-clause-adds c =
+    let clauses = c.args.clauses.now in
+    let old = c.args.trail.now in
+    let none = c.in_default.ensures.none in
+    adds_one clauses old c.imply.new.trail c.args.number c.args.other _ c.requires.low c.requires.high (one_open clauses (truth_of old) c.args.number c.args.other (rw (← c.get-clause.ensures.value) c.get-clause.ensures.clause) c.requires.other (rw (← c.get-clause.ensures.value) c.in_default-replacement.ensures.none) (no_some (literal_value (truth_of old) c.args.other) (cc (c.is_some.ensures, c.if-is_some.false, c.value.ensures)))) refl c.imply.ensures.variables c.imply.ensures.entries
