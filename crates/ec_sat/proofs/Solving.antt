@@ -6,6 +6,7 @@ use Rattle.ec_clause.specs.ClauseList.{ClauseList}
 use Rattle.ec_clause.specs.Note.{Note}
 use Rattle.ec_clause.specs.Truth.{Truth}
 use Rattle.ec_trail.specs.TrailList.{TrailList}
+use Rattle.ec_unit.specs.Watching.{Watched}
 use Rattle.ec_sat.specs.Run.{Runs, lits_of}
 use Rattle.ec_sat.specs.Ready.{IsReady}
 use Rattle.ec_sat.specs.Searched.{IsGoing, AreFew, phase_after}
@@ -30,7 +31,7 @@ few_after old new before after count derived limit visible blocked p answer h lo
       few_derived = omega (arith, runs_low old new before after count derived limit p answer h);
     }
 
-pub going_after : (old new : ClauseList) (before after : List Note) (count derived limit blocked : ℕ) (p : Truth) (trail : TrailList) (watch order : ℕ) (marks : List Bool) (answer : Next) → Runs old new before after count derived limit p answer → (answer ≡ Model → IsReady new trail watch order marks) → length old.clauses ≤ 2 ^ 30 + blocked + count → IsGoing (phase_after answer) blocked derived new trail watch order marks
+pub going_after : (old new : ClauseList) (before after : List Note) (count derived limit blocked : ℕ) (p : Truth) (trail : TrailList) (watch : Watched) (order : ℕ) (marks : List Bool) (answer : Next) → Runs old new before after count derived limit p answer → (answer ≡ Model → IsReady new trail watch order marks) → length old.clauses ≤ 2 ^ 30 + blocked + count → IsGoing (phase_after answer) blocked derived new trail watch order marks
 going_after old new before after count derived limit blocked p trail watch order marks Model h ready few =
     (ready refl, omega (arith, ap (λ (c : ClauseList). length c.clauses) h.run.added, length-append old.clauses (map lits_of h.steps), length-map h.steps lits_of, h.counted, count_all h.steps h.outcome.1))
 going_after old new before after count derived limit blocked p trail watch order marks Exhausted h ready few = tt

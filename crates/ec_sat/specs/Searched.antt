@@ -4,6 +4,7 @@ use Rattle.ec_clause.specs.ClauseList.{ClauseList}
 use Rattle.ec_clause.specs.Truth.{Truth}
 use Rattle.ec_clause.specs.Note.{Note, Blocked}
 use Rattle.ec_trail.specs.TrailList.{TrailList}
+use Rattle.ec_unit.specs.Watching.{Watched}
 use Rattle.ec_sat.specs.Ready.{IsReady}
 use Rattle.ec_sat.specs.Run.{Runs, blocked_clause}
 use Rattle.ec_sat.specs.declared.answer.Next.{Next}
@@ -54,7 +55,7 @@ pub record BlocksNone (old new : Searched) (before after : List Note) : Type 0 w
   pub derived : new.derived ≡ old.derived
 
 -- a search can go on, and its clauses are few, unless it ended
-abbrev pub IsGoing : Phase → ℕ → ℕ → ClauseList → TrailList → ℕ → ℕ → List Bool → Type 0
+abbrev pub IsGoing : Phase → ℕ → ℕ → ClauseList → TrailList → Watched → ℕ → List Bool → Type 0
 IsGoing Ready blocked derived list trail watch order marks = IsReady list trail watch order marks × (length list.clauses ≤ 2 ^ 30 + blocked + derived)
 IsGoing Found blocked derived list trail watch order marks = IsReady list trail watch order marks × (length list.clauses ≤ 2 ^ 30 + blocked + derived)
 IsGoing Ended blocked derived list trail watch order marks = Unit {0}

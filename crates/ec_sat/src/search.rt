@@ -4,6 +4,7 @@ ghost use Rattle.std.specs.Prelude.{◌≡◌, ℕ, ◌+◌, ◌-◌, ◌^◌, �
 ghost use Rattle.ec_clause.specs.ClauseList.{IsClause};
 ghost use Rattle.ec_trail.specs.TrailList.{truth_of};
 ghost use Rattle.ec_unit.specs.Settling.{IsFalseAt};
+ghost use Rattle.ec_unit.specs.Watching.{Watches};
 ghost use Rattle.ec_sat.specs.Reasons.{IsSearching};
 ghost use Rattle.ec_clause.specs.Note.{Derived, Blocked};
 ghost use Rattle.ec_clause.specs.Step.{AllHold};
@@ -52,10 +53,10 @@ pub fn descend(
     order: &mut Order,
 ) -> Option<u32>
     requires searching { IsSearching clauses.now trail.old }
-    requires watched { watch.old ≡ length clauses.now.clauses }
+    requires watched { Watches clauses.now watch.old }
     requires order { order.old ≡ trail.old.variables }
     ensures searching { IsSearching clauses.now trail.new }
-    ensures watched { watch.new ≡ watch.old }
+    ensures watched { Watches clauses.now watch.new }
     ensures order { order.new ≡ order.old }
     ensures variables { trail.new.variables ≡ trail.old.variables }
     ensures cases { MatchOption result (AllHold (value_in (truth_of trail.new)) clauses.now) (IsFalseAt clauses.now (truth_of trail.new)) }
@@ -79,10 +80,10 @@ pub fn descend(
 pub fn add(clauses: &mut Clauses, watch: &mut Watch, lits: &[Lit]) -> Result<(), AllocError>
     requires clause { IsClause clauses.old.variables lits.now }
     requires few { length clauses.old.clauses < 2 ^ 32 - 1 }
-    requires watched { watch.old ≡ length clauses.old.clauses }
+    requires watched { Watches clauses.old watch.old }
     ensures variables { clauses.new.variables ≡ clauses.old.variables }
     ensures ok { OnOk result (clauses.new.clauses ≡ clauses.old.clauses ++ lits.now ∷ []) }
-    ensures watched { OnOk result (watch.new ≡ length clauses.old.clauses + 1) }
+    ensures watched { OnOk result (Watches clauses.new watch.new) }
     ensures err { OnErr result (clauses.new.clauses ≡ clauses.old.clauses) }
 {
     let kept = clauses.len();
@@ -105,10 +106,10 @@ fn note<N: Notes>(
 ) -> Result<(), AllocError>
     requires clause { IsClause clauses.old.variables learned.now.lits.items }
     requires few { length clauses.old.clauses < 2 ^ 32 - 1 }
-    requires watched { watch.old ≡ length clauses.old.clauses }
+    requires watched { Watches clauses.old watch.old }
     ensures variables { clauses.new.variables ≡ clauses.old.variables }
     ensures ok { OnOk result (clauses.new.clauses ≡ clauses.old.clauses ++ learned.now.lits.items ∷ []) }
-    ensures watched { OnOk result (watch.new ≡ length clauses.old.clauses + 1) }
+    ensures watched { OnOk result (Watches clauses.new watch.new) }
     ensures noted { OnOk result (N.notes notes.new ≡ N.notes notes.old ++ Derived learned.now.lits.items learned.now.hints.items ∷ []) }
     ensures err { OnErr result (clauses.new.clauses ≡ clauses.old.clauses) }
     ensures none { OnErr result (N.notes notes.new ≡ N.notes notes.old) }
@@ -222,10 +223,10 @@ fn note_blocked<N: Notes>(
 ) -> Result<(), AllocError>
     requires clause { IsClause clauses.old.variables lits.now }
     requires few { length clauses.old.clauses < 2 ^ 32 - 1 }
-    requires watched { watch.old ≡ length clauses.old.clauses }
+    requires watched { Watches clauses.old watch.old }
     ensures variables { clauses.new.variables ≡ clauses.old.variables }
     ensures ok { OnOk result (clauses.new.clauses ≡ clauses.old.clauses ++ lits.now ∷ []) }
-    ensures watched { OnOk result (watch.new ≡ length clauses.old.clauses + 1) }
+    ensures watched { OnOk result (Watches clauses.new watch.new) }
     ensures noted { OnOk result (N.notes notes.new ≡ N.notes notes.old ++ Blocked lits.now ∷ []) }
     ensures err { OnErr result (clauses.new.clauses ≡ clauses.old.clauses) }
     ensures none { OnErr result (N.notes notes.new ≡ N.notes notes.old) }

@@ -51,7 +51,7 @@ impl Solver {
     {
         let variables = clauses.variables();
         let trail = Trail::new(alloc, variables)?;
-        let watch = Watch::new(&clauses)?;
+        let watch = Watch::new(alloc, &clauses)?;
         let order = Order::new(alloc, variables)?;
         let marks = vec![in alloc; false; variables as usize + 1]?;
         Ok(Solver {

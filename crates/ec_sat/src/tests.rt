@@ -224,7 +224,8 @@ fn limits_and_ends(rt: HostRuntime) {
 }
 
 /// The search decides -1 and implies 2, 3 and 4; the last clause is false then. 2 is the first
-/// unique implication point, and the decision another one.
+/// unique implication point, and the decision another one. The clauses that imply 3 and 4 may come
+/// in either order, and the one that is false comes last.
 #[test]
 fn learns_at_the_first_implication_point(rt: HostRuntime) {
     let alloc = rt.alloc();
@@ -237,7 +238,8 @@ fn learns_at_the_first_implication_point(rt: HostRuntime) {
     let noted = &notes.notes[0];
     assert_eq!(rt; noted.lits.as_slice(), [Lit::new(2, false)].as_slice());
     let hints = noted.hints.as_ref().expect(&rt, "hints");
-    assert_eq!(rt; hints.as_slice(), [2, 3, 4].as_slice());
+    let hints = hints.as_slice();
+    assert!(rt; hints == [2, 3, 4].as_slice() || hints == [3, 2, 4].as_slice());
 }
 
 #[test]

@@ -1,5 +1,4 @@
-use Rattle.std.proofs.Common.{◌+◌, ◌∙◌, List, length, sym, ap, subst, arith}
-use Rattle.std.proofs.lemmas.List.{length_push}
+use Rattle.std.proofs.Common.{◌+◌, ◌∙◌, List, sym, ap, subst, arith}
 use Rattle.ec_clause.specs.Literal.{Literal}
 use Rattle.ec_clause.specs.ClauseList.{IsClause}
 use Rattle.ec_trail.specs.TrailList.{truth_of}
@@ -26,7 +25,7 @@ returns-clause-ready g c =
     let lits = c.deref.result.now in
     record {
       searching = searching_back old.clauses c.note_blocked.new.clauses old.trail c.back_to.new.self lits c.second_level-level.result c.requires.ready.searching c.second_level-level.ensures.trail c.note_blocked.ensures.variables c.in_ok-note_blocked.ensures.ok c.back_to.ensures.variables c.back_to.ensures.entries (λ high. subst (λ (xs : List Literal). HasTwo old.trail.entries xs c.second_level-level.result) (c.deref-2.ensures.value ∙ sym c.deref.ensures.value) (c.second_level-level.ensures.two high));
-      watched = omega (arith, c.in_ok-note_blocked.ensures.watched, ap length c.in_ok-note_blocked.ensures.ok, length_push old.clauses.clauses lits);
+      watched = c.in_ok-note_blocked.ensures.watched;
       ordered = c.save.ensures ∙ c.requires.ready.ordered ∙ sym c.back_to.ensures.variables;
       marked = c.requires.ready.marked ∙ ap (λ n. n + 1) (sym c.back_to.ensures.variables);
     }

@@ -16,7 +16,7 @@ returns-in-None-clause-cases c =
 pub loop-number-preserved : goal.loop-number-preserved
 loop-number-preserved c = (
   searching_decide c.args.clauses.now c.settle.new.trail c.decide.new.self _ (searching_adds c.args.clauses.now c.loop-number.trail c.settle.new.trail c.loop-number.invariant.0 c.settle.ensures.adds) c.len-few.ensures.trail c.in-Quiet.ensures.settles c.decide.ensures.variables c.decide.ensures.entries refl refl,
-  c.settle.ensures.watched ∙ c.loop-number.invariant.1,
+  c.settle.ensures.watched,
   c.next.ensures.variables ∙ c.loop-number.invariant.2,
   c.decide.ensures.variables ∙ c.settle.ensures.adds.variables ∙ c.loop-number.invariant.3,
 )

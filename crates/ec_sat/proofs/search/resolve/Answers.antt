@@ -1,5 +1,4 @@
 use Rattle.std.proofs.Common.{ℕ, ◌+◌, ◌∙◌, List, length, sym, ap, subst, arith}
-use Rattle.std.proofs.lemmas.List.{length_push}
 use Rattle.ec_clause.specs.Literal.{Literal}
 use Rattle.ec_clause.specs.ClauseList.{IsClause}
 use Rattle.ec_sat.specs.Back.{HasTwo}
@@ -20,7 +19,7 @@ returns-clause-ready g c = λ learned.
     let lits = c.in_ok-learned.learned.lits.items in
     record {
       searching = searching_back old.clauses c.note.new.clauses old.trail c.back_to.new.self lits c.second_level-level.result c.requires.ready.searching c.second_level-level.ensures.trail c.note.ensures.variables c.in_ok-note.ensures.ok c.back_to.ensures.variables c.back_to.ensures.entries (λ high. subst (λ (xs : List Literal). HasTwo old.trail.entries xs c.second_level-level.result) c.deref.ensures.value (c.second_level-level.ensures.two high));
-      watched = omega (arith, c.in_ok-note.ensures.watched, ap length c.in_ok-note.ensures.ok, length_push old.clauses.clauses lits);
+      watched = c.in_ok-note.ensures.watched;
       ordered = c.save.ensures ∙ c.bump.ensures ∙ c.requires.ready.ordered ∙ sym c.back_to.ensures.variables;
       marked = length-lent old.marks.len c.learn.new.marks old.marks.items (c.learn.auto.marks ∙ ap length c.deref_mut.ensures.value) (sym c.deref_mut.ensures.len ∙ ap length c.deref_mut.ensures.value) ∙ c.requires.ready.marked ∙ ap (λ n. n + 1) (sym c.back_to.ensures.variables);
     }
