@@ -9,16 +9,13 @@ trap 'rm -rf "$folder"' EXIT
 
 (cd "$here/crates/bench_search" && rt run >out/build.log 2>&1 </dev/null)
 
-# The seconds that a command took, with three places.
+# The processor seconds that a command took, with three places.
 seconds() {
-    local start end
-    start=$(date +%s%N)
-    "$@" >/dev/null || true
-    end=$(date +%s%N)
-    printf '%d.%03d' $(((end - start) / 1000000000)) $(((end - start) / 1000000 % 1000))
+    local TIMEFORMAT=%U
+    { time "$@" >/dev/null 2>&1 || true; } 2>&1
 }
 
-# One line: the instance, what came of it, the seconds that it took, and those of MiniSat where it is installed.
+# One line: the instance, what came of it, the processor seconds that it took, and those of MiniSat where it is installed.
 measure() {
     printf '%-16s %s in %s s' "$*" "$("$program" "$@")" "$(seconds "$program" "$@")"
     if command -v minisat >/dev/null; then

@@ -5,8 +5,9 @@ ghost use Rattle.std.specs.Prelude.{◌≡◌, ℕ, ◌+◌, ◌^◌, ◌<◌, �
 use std::alloc::{AllocError, Global};
 use std::marker::Model;
 
-/// When a step of activity passes this, all activities are scaled down.
-const HIGH: u64 = 1 << 60;
+/// When a step of activity passes this, all activities are scaled down: early enough that a
+/// variable of many clauses stays below the highest number, where all would be alike.
+const HIGH: u64 = 1 << 54;
 
 /// A binary heap of variables from 1 to its value. A variable stands in it at most once. Its
 /// order is kept for speed, and nothing is promised of it.

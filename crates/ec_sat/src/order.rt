@@ -5,6 +5,7 @@ ghost use Rattle.ec_sat.specs.Full.{IsFull, IsFree, IsOpen};
 ghost use Rattle.ec_clause.specs.Literal.{Literal};
 
 use crate::heap::Heap;
+use ec_clause::clauses::Clauses;
 use ec_clause::lit::Lit;
 use ec_trail::trail::Trail;
 use std::alloc::{AllocError, Global};
@@ -74,15 +75,29 @@ impl Order {
         }
     }
 
-    /// Makes the variables of a derived clause more active.
-    pub fn bump(&mut self, lits: &[Lit])
+    /// Makes the variables of a derived clause more active, and those of the clauses that it
+    /// follows from: a variable counts once for each clause that it is in.
+    pub fn bump(&mut self, clauses: &Clauses, lits: &[Lit], hints: &[u32])
+        requires variables { self.old ≡ clauses.now.variables }
+        requires lits { All (λ (l : Literal). l.variable ≤ self.old) lits.now }
+        ensures { self.new ≡ self.old }
+    {
+        self.bump_each(lits);
+        for hint in hints {
+            if 1 <= *hint && *hint <= clauses.len() {
+                self.bump_each(clauses.get(*hint));
+            }
+        }
+        self.heap.decay();
+    }
+
+    fn bump_each(&mut self, lits: &[Lit])
         requires { All (λ (l : Literal). l.variable ≤ self.old) lits.now }
         ensures { self.new ≡ self.old }
     {
         for lit in lits {
             self.heap.bump(lit.variable());
         }
-        self.heap.decay();
     }
 }
 

@@ -157,7 +157,9 @@ pub fn resolve<N: Notes>(
     }
     search.derived += 1;
     let level = second_level(&search.trail, &learned.lits);
-    search.order.bump(&learned.lits);
+    search
+        .order
+        .bump(&search.clauses, &learned.lits, &learned.hints);
     search.order.save(&search.trail, level);
     search.trail.back_to(level);
     Ok(Conflict::Learned)

@@ -11,7 +11,10 @@ bump-requires g c =
     let n = c.args.search.now.trail.variables in
     let clause = subst (λ (m : ℕ). IsClause m c.in_ok-learned.learned.lits.items) c.requires.ready.searching.variables c.in_ok-learned.ensures.step.clause in
     let clause' = subst (λ (xs : List Literal). IsClause n xs) (sym c.deref-2.ensures.value) clause in
-    λ k d lt. omega (arith, (clause'.in_range k d lt).1, c.requires.ready.ordered)
+    record {
+      variables = c.requires.ready.ordered ∙ sym (c.note.ensures.variables ∙ c.requires.ready.searching.variables);
+      lits = λ k d lt. omega (arith, (clause'.in_range k d lt).1, c.requires.ready.ordered);
+    }
 
 pub returns-clause-ready : goal.returns-clause-ready
 returns-clause-ready g c = λ learned.

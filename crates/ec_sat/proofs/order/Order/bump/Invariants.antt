@@ -1,6 +1,5 @@
-use Rattle.std.proofs.Common.{◌≡◌, ◌+◌, length}
+use Rattle.std.proofs.Common.{◌≡◌}
 use Rattle.ec_sat.proofs.order.Order.bump.Given as goal
 
-abbrev pub invariant-loop-lit : goal.invariant-loop-lit
-invariant-loop-lit l =
-    (l.self-inside.heap ≡ l.initial.self-inside.heap) × (length l.self-inside.saved.items ≡ l.initial.self-inside.heap + 1)
+abbrev pub invariant-loop-hint : goal.invariant-loop-hint
+invariant-loop-hint l = l.self ≡ l.initial.self
