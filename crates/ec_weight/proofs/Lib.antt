@@ -1,0 +1,3 @@
+mod StopLemmas
+mod FormulaLemmas
+mod Examples
