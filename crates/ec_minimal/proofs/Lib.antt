@@ -6,3 +6,6 @@ pub mod SupportedTuples
 pub mod SupportLemmas
 pub mod AgreeLemmas
 pub mod TakeLemmas
+pub mod FirstLemmas
+pub mod ReleaseLemmas
+pub mod EffectLemmas

@@ -1,5 +1,5 @@
 -- A predicate's extent, taken atom by atom from another structure.
-use Rattle.std.proofs.Common.{◌≡◌, ◌∙◌, ◌<◌, ◌≤◌, ◌+◌, ◌-◌, ◌==◌, ◌&&◌, ◌||◌, ◌≢◌, ◌⊎◌, ⊎_elim, ℕ, zero, suc, nat_le, nat_lt, Bool, true, false, List, [], ◌∷◌, length, set, take, get_or, Option, None, Some, slice_get, unwrap_or, if◌then◌else◌, ℤ, refl, sym, ap, subst, arith}
+use Rattle.std.proofs.Common.{◌≡◌, ◌∙◌, ◌<◌, ◌≤◌, ◌+◌, ◌-◌, ◌==◌, ◌||◌, ◌≢◌, ⊎_elim, ℕ, zero, suc, nat_lt, Bool, true, false, List, [], ◌∷◌, length, set, take, get_or, Option, None, Some, slice_get, unwrap_or, if◌then◌else◌, ℤ, refl, sym, ap, subst, arith}
 use Rattle.std.proofs.lemmas.Bool.Decides.{nat_tests, eqb_tells}
 use Rattle.std.specs.List.{list_any}
 use Rattle.std.proofs.Math.Bool.{or-false}

@@ -13,7 +13,7 @@ use ec_eval::Structure;
 use ec_theory::{Group, Signature, tuples_of};
 use std::alloc::{AllocError, Global};
 
-// Gives a predicate's atoms the truth that they have in another structure.
+/// Gives a predicate's atoms the truth that they have in another structure.
 fn take_extent(
     signature: &Signature,
     atoms: &Atoms,
@@ -28,6 +28,7 @@ fn take_extent(
     ensures takes { TakesExtent (universe_of signature.now) source.now target.old target.new predicate }
     ensures size { length target.new ≡ length target.old }
 {
+    // These calls tell the proof what a signature and its atoms always keep.
     let _sorts = signature.sorts();
     let _visible = atoms.visible();
     let first = atoms.first_of(predicate);
@@ -38,6 +39,7 @@ fn take_extent(
     }
 }
 
+/// The same of several predicates.
 fn take_extents(
     signature: &Signature,
     atoms: &Atoms,

@@ -13,6 +13,7 @@ use ec_eval::Structure;
 use ec_theory::{Group, Signature, tuples_of};
 use std::alloc::{AllocError, Global};
 
+/// Whether an atom has the same truth in both structures.
 fn same_at(a: &Structure, b: &Structure, atom: u64) -> bool
     requires left { atom < length a.now }
     requires right { atom < length b.now }
@@ -21,7 +22,7 @@ fn same_at(a: &Structure, b: &Structure, atom: u64) -> bool
     a.get(atom) == b.get(atom)
 }
 
-// Whether two structures agree on the atoms of a predicate.
+/// Whether two structures agree on the atoms of a predicate.
 fn agree_on(
     signature: &Signature,
     atoms: &Atoms,
@@ -36,6 +37,7 @@ fn agree_on(
     ensures same { result ≡ true → Agrees (universe_of signature.now) a.now b.now predicate }
     ensures other { result ≡ false → Agrees (universe_of signature.now) a.now b.now predicate → ⊥ }
 {
+    // These calls tell the proof what a signature and its atoms always keep.
     let _sorts = signature.sorts();
     let _visible = atoms.visible();
     let first = atoms.first_of(predicate);
@@ -48,7 +50,7 @@ fn agree_on(
     true
 }
 
-// Whether two structures agree on the atoms of each of these predicates.
+/// Whether two structures agree on the atoms of each of these predicates.
 fn agree_on_all(
     signature: &Signature,
     atoms: &Atoms,

@@ -12,7 +12,7 @@ use ec_theory::{Sentence, Signature};
 use std::alloc::{AllocError, Global};
 
 /// How many binders may nest in a sentence of a file.
-const BINDERS: u32 = 16;
+pub(crate) const BINDERS: u32 = 16;
 
 /// The structure in which exactly those atoms are true that one of these sentences supports in another
 /// structure: the heads of the instances of their paths whose bodies are all true. Each sentence is gone
@@ -29,6 +29,7 @@ pub fn supported_atoms(
     ensures supported { IfOk result (λ marks. (p : ℕ) (vs : List ℤ) → structure_of (universe_of signature.now) marks p vs ≡ is_supported (universe_of signature.now) (structure_of (universe_of signature.now) structure.now) (sentence_trees sentences.now) p vs) }
     ensures size { IfOk result (λ marks. length marks ≡ length (all_atoms (universe_of signature.now))) }
 {
+    // This call tells the proof what a signature always keeps.
     let _sorts = signature.sorts();
     let mut marks = Structure::empty(alloc, atoms)?;
     let mut scratch = Scratch::new(alloc, BINDERS)?;
