@@ -1,0 +1,6 @@
+pub mod Rise
+pub mod Branches
+pub mod Finding
+pub mod VisibleParts
+pub mod Leaves
+pub mod Steps

@@ -1,0 +1,30 @@
+use Rattle.std.proofs.Common.{◌∙◌, ◌++◌, ◌∷◌, [], ap, Bool, List}
+use Rattle.ec_theory.specs.Theories.{theory_of}
+use Rattle.ec_models.proofs.Leaves.{visible_kept, kept_minimal, kept_other}
+use Rattle.ec_models.proofs.truths.Trial.keep.Goals as goal
+
+pub visible_truth-requires : goal.visible_truth-requires
+visible_truth-requires c = record { of = c.requires.of; all = c.in_ok-least_effects.ensures.size ∙ c.requires.all }
+
+pub returns-in_ok-push-in-Minimal-clause-same : goal.returns-in_ok-push-in-Minimal-clause-same
+returns-in_ok-push-in-Minimal-clause-same c =
+    let size = c.in_ok-least_effects.ensures.size ∙ c.requires.all in
+    visible_kept (theory_of c.args.self.now.theory.now) c.requires.valid c.args.structure.now c.least_effects.new.structure c.requires.all size c.in_ok-least_effects.ensures.filled
+
+pub returns-in_ok-push-in-Minimal-clause-found : goal.returns-in_ok-push-in-Minimal-clause-found
+returns-in_ok-push-in-Minimal-clause-found c =
+    let before = c.args.found.now.items in
+    let size = c.in_ok-least_effects.ensures.size ∙ c.requires.all in
+    let added = c.in_ok-push-in-Minimal.ensures.items ∙ ap (λ (x : List Bool). before ++ x ∷ []) c.in_ok-visible_truth-in-Minimal.ensures in
+    kept_minimal (theory_of c.args.self.now.theory.now) c.requires.valid c.args.structure.now c.least_effects.new.structure c.requires.all size c.in_ok-least_effects.ensures.filled before c.push.new.self.items (c.in_ok-verdict.ensures.minimal.0 c.in-Minimal.is) added
+
+pub returns-in-Untrue-clause-same : goal.returns-in-Untrue-clause-same
+returns-in-Untrue-clause-same c =
+    let size = c.in_ok-least_effects.ensures.size ∙ c.requires.all in
+    visible_kept (theory_of c.args.self.now.theory.now) c.requires.valid c.args.structure.now c.least_effects.new.structure c.requires.all size c.in_ok-least_effects.ensures.filled
+
+pub returns-in-Untrue-clause-found : goal.returns-in-Untrue-clause-found
+returns-in-Untrue-clause-found c =
+    let size = c.in_ok-least_effects.ensures.size ∙ c.requires.all in
+    kept_other (theory_of c.args.self.now.theory.now) c.requires.valid c.args.structure.now c.least_effects.new.structure c.requires.all size c.in_ok-least_effects.ensures.filled c.args.found.now.items
+    (λ minimal. let is = c.in_ok-verdict.ensures.minimal.1 minimal in let other = c.in-Untrue.is in cc)
