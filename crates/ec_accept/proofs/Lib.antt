@@ -1,0 +1,4 @@
+pub mod Checkable
+pub mod Codes
+pub mod Layers
+pub mod One
