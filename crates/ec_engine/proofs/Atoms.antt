@@ -1,9 +1,23 @@
--- The truth of an atom is its name's truth value.
-use Rattle.std.proofs.Common.{◌≡◌, ℕ, Bool, false, List, slice_index_or}
-use Rattle.ec_logic.specs.Tree.{atom, no_terms}
-use Rattle.ec_engine.specs.Proposition.{declared_number}
-use Rattle.ec_engine.specs.Truths.{truth_in}
-use Rattle.ec_engine.proofs.Structures.{high_is}
+-- How many visible atoms there are, by a signature and by the theory that has it.
+use Rattle.std.proofs.Common.{◌≡◌, ℕ, ◌<◌, ◌≤◌, codes, List, length, Option, Ok, arith, ap}
+use Rattle.ec_accept.specs.Accepted.{IsAccepted}
+use Rattle.ec_engine.specs.List.{IsRefused, many_atoms}
+use Rattle.ec_load.specs.Refusals.{refused, in_file}
+use Rattle.ec_logic.specs.Atom.{visible_atoms}
+use Rattle.ec_logic.specs.Signature.{Signature}
+use Rattle.ec_logic.specs.Theory.{Theory}
+use Rattle.ec_logic.specs.Universe.{universe_of}
 
-pub atom_is : (truths : List Bool) (name : ℕ) → truth_in truths (atom (declared_number name) no_terms) ≡ slice_index_or truths name false
-atom_is truths name = high_is truths name
+abbrev count_of : Signature → ℕ
+count_of signature = length (visible_atoms (universe_of signature))
+
+pub few_atoms : (numbered signature : Signature) (count : ℕ) → numbered ≡ signature → count ≡ length (visible_atoms (universe_of numbered)) → count ≤ 16 → length (visible_atoms (universe_of signature)) ≤ 16
+few_atoms numbered signature count same is few =
+    let e : count_of numbered ≡ count_of signature = ap count_of same in
+    omega (arith, e, is, few)
+
+pub too_many : (held : List ℕ → Option (List ℕ)) (file : List ℕ) (theory : Theory) (numbered : Signature) (count : ℕ) → numbered ≡ theory.signature → count ≡ length (visible_atoms (universe_of numbered)) → 16 < count
+    → IsAccepted held file (Ok theory) → IsRefused held file (refused 21 (in_file file 0) (codes "atoms"))
+too_many held file theory numbered count same is many said =
+    let e : count_of numbered ≡ count_of theory.signature = ap count_of same in
+    many_atoms theory said (omega (arith, e, is, many))

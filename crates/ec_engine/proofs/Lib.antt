@@ -1,14 +1,3 @@
-pub mod Structures
-pub mod Rise
-pub mod Models
-pub mod Texts
+pub mod Parts
+pub mod Endings
 pub mod Atoms
-pub mod Branches
-pub mod Numbered
-pub mod AtomForms
-pub mod NameLines
-pub mod Narratives
-pub mod Counts
-pub mod Outcomes
-pub mod Readings
-pub mod Spellings

@@ -1,11 +1,4 @@
-pub mod Propositions
-pub mod Truths
-pub mod Text
-pub mod Proposition
-pub mod FirstText
-pub mod Sentences
-pub mod FirstView
-pub mod Reading
 pub mod Refusals
 pub mod List
-pub mod Outcome
+pub mod Answers
+pub mod Narratives

@@ -8,7 +8,3 @@ two_digits n = (48 + n / 10) ∷ (48 + n % 10) ∷ []
 
 abbrev pub refusal_line : Refusal → List ℕ
 refusal_line r = line (codes "refused E" ++ two_digits r.code ++ codes " " ++ r.file ++ codes ":" ++ decimal r.line ++ codes ": " ++ r.name)
-
--- a refusal of the whole file
-abbrev pub of_file : ℕ → List ℕ → List ℕ → Refusal
-of_file code file name = record { code = code; file = file; line = 0; name = name }

@@ -1,22 +1,24 @@
 //! The command `list`.
-ghost use Rattle.std.specs.Prelude.{◌≡◌, ◌≤◌, ◌<◌, ◌^◌, ◌++◌, length, List, ℕ, Option, Some, None, IsTrue, IfOk, IfNone, IfSome, MatchOption};
+ghost use Rattle.std.specs.Prelude.{◌≡◌, ◌<◌, ◌^◌, ◌++◌, codes, length, List, ℕ, Option, Ok, IsTrue};
 ghost use Rattle.ec_edge.specs.Causes.{Rose};
 ghost use Rattle.ec_edge.specs.Pieces.{AllStay};
-ghost use Rattle.ec_engine.specs.FirstView.{first_view};
-ghost use Rattle.ec_engine.specs.List.{IsAnswered, IsDue, IsRefused};
-ghost use Rattle.ec_engine.specs.Outcome.{IsOutcome, LeadsTo, IsWholeAnswer};
-ghost use Rattle.ec_engine.specs.Propositions.{Propositions};
-ghost use Rattle.ec_engine.specs.Refusals.{of_file as refusal_of, refusal_line};
-ghost use Rattle.ec_engine.specs.Reading.{IsFirstText};
+ghost use Rattle.ec_load.specs.Refusals.{in_file, refused};
+ghost use Rattle.ec_logic.specs.Listing.{complete, list_text};
+ghost use Rattle.ec_logic.specs.ValidTheory.{IsValidTheory};
+ghost use Rattle.ec_theory.specs.Theories.{theory_of};
+ghost use Rattle.ec_accept.specs.Accepted.{IsAccepted};
+ghost use Rattle.ec_engine.specs.List.{IsAnswered, IsListed, IsRefused};
+ghost use Rattle.ec_engine.specs.Refusals.{refusal_line};
+ghost use Rattle.ec_engine.specs.Answers.{answer_of};
 
-use crate::first_text::FirstText;
-use crate::reading::read_text;
-use crate::refusals::{of_file, refusal_text};
-use crate::text::list_text;
-use crate::truths::models;
-use ec_edge::{FileFault, Files, Sink, SinkFault, put_text, read_whole};
+use crate::narratives::put_list;
+use crate::refusals::{of_file, put_refusal};
+use ec_accept::{AcceptFault, Accepted, accept};
+use ec_edge::{Files, Sink, SinkFault};
+use ec_models::models;
+use ec_row::Row;
 use ec_syntax::book::Refusal;
-use std::alloc::{AllocError, Global};
+use std::alloc::Global;
 
 /// How `list` ended.
 #[derive(Debug, PartialEq, Eq, Drop)]
@@ -33,55 +35,14 @@ pub enum ListEnd {
     Memory,
 }
 
-/// What a file's bytes lead to: a list of so many narratives, or a refusal.
-#[derive(Drop)]
-pub enum Outcome {
-    Listed { count: u64, text: Vec<u8> },
-    Refused(Refusal),
-}
+/// A list has at most so many visible atoms, since each of their truths is tried.
+const MOST_ATOMS: u32 = 16;
 
-/// A file has at most so many bytes.
-const FILE_LIMIT: u32 = 1_048_576;
-
-/// A list has at most so many visible atoms.
-const MOST_ATOMS: usize = 16;
-
-fn outcome_of(alloc: Global, file: &str, bytes: &[u8]) -> Result<Outcome, AllocError>
-    requires { length bytes.now ≤ 2 ^ 20 }
-    ensures { IfOk result (λ outcome. IsOutcome bytes.now file.now outcome) }
+/// The answer that is due with a text, if the text was put, or why it wasn't.
+fn answered(put: Result<(), SinkFault>, answer: ListEnd) -> ListEnd
+    ensures { result ≡ answer_of put answer }
 {
-    match read_text(alloc, bytes)? {
-        Some(text) => outcome_of_text(alloc, file, &text),
-        None => Ok(Outcome::Refused(of_file(alloc, 22, file, "form")?)),
-    }
-}
-
-fn outcome_of_text(alloc: Global, file: &str, text: &FirstText) -> Result<Outcome, AllocError>
-    ensures { IfOk result (λ outcome. LeadsTo (first_view text.now) file.now outcome) }
-{
-    let names = text.names.len();
-    if names > MOST_ATOMS {
-        return Ok(Outcome::Refused(of_file(alloc, 21, file, "atoms")?));
-    }
-    let truths = models(alloc, names as u32, &text.sentences)?;
-    let list = list_text(alloc, &text.names, &truths)?;
-    Ok(Outcome::Listed {
-        count: truths.len() as u64,
-        text: list,
-    })
-}
-
-/// Puts the text that is due with an answer, and gives that answer.
-fn put<O: Sink>(out: &mut O, text: &[u8], answer: ListEnd) -> ListEnd
-    requires { IsWholeAnswer answer }
-    ensures put { IsTrue (O.tells out.old) → (held : Option (List ℕ)) (file : List ℕ) → IsDue held file answer text.now →
-        IsAnswered held file (O.bytes out.old) (O.bytes out.new) result }
-    ensures files { result ≡ ListEnd.Files → ⊥ }
-    ensures failed { result ≡ ListEnd.Out → Rose (O.faults out.old) (O.faults out.new) }
-    ensures refused { (r : Refusal) → result ≡ ListEnd.Refused r → answer ≡ ListEnd.Refused r }
-    ensures line { IsTrue (O.tells out.old) → (r : Refusal) → result ≡ ListEnd.Refused r → O.bytes out.new ≡ O.bytes out.old ++ text.now }
-{
-    match put_text(out, text) {
+    match put {
         Ok(()) => answer,
         Err(SinkFault::Failed) => ListEnd::Out,
         Err(SinkFault::Memory) => ListEnd::Memory,
@@ -90,46 +51,63 @@ fn put<O: Sink>(out: &mut O, text: &[u8], answer: ListEnd) -> ListEnd
 
 /// Puts the line of a refusal.
 fn refuse<O: Sink>(alloc: Global, out: &mut O, refusal: Refusal) -> ListEnd
-    ensures put { IsTrue (O.tells out.old) → (held : Option (List ℕ)) (file : List ℕ) → IsRefused held file refusal →
+    ensures put { IsTrue (O.tells out.old) → (held : List ℕ → Option (List ℕ)) (file : List ℕ) → IsRefused held file refusal →
         IsAnswered held file (O.bytes out.old) (O.bytes out.new) result }
     ensures files { result ≡ ListEnd.Files → ⊥ }
     ensures failed { result ≡ ListEnd.Out → Rose (O.faults out.old) (O.faults out.new) }
     ensures refused { (r : Refusal) → result ≡ ListEnd.Refused r → r ≡ refusal }
     ensures line { IsTrue (O.tells out.old) → (r : Refusal) → result ≡ ListEnd.Refused r → O.bytes out.new ≡ O.bytes out.old ++ refusal_line r }
 {
-    match refusal_text(alloc, &refusal) {
-        Ok(text) => put(out, &text, ListEnd::Refused(refusal)),
-        Err(_) => ListEnd::Memory,
-    }
+    let put = put_refusal(alloc, out, &refusal);
+    answered(put, ListEnd::Refused(refusal))
 }
 
-/// Refuses a file by a code and a name.
-fn refuse_file<O: Sink>(alloc: Global, out: &mut O, code: u8, file: &str, name: &str) -> ListEnd
-    ensures put { IsTrue (O.tells out.old) → (held : Option (List ℕ)) → IsRefused held file.now (refusal_of code file.now name.now) →
+/// Refuses a file that has too many visible atoms.
+fn refuse_atoms<O: Sink>(alloc: Global, out: &mut O, file: &str) -> ListEnd
+    ensures put { IsTrue (O.tells out.old) → (held : List ℕ → Option (List ℕ)) → IsRefused held file.now (refused 21 (in_file file.now 0) (codes "atoms")) →
         IsAnswered held file.now (O.bytes out.old) (O.bytes out.new) result }
     ensures files { result ≡ ListEnd.Files → ⊥ }
     ensures failed { result ≡ ListEnd.Out → Rose (O.faults out.old) (O.faults out.new) }
-    ensures refused { (r : Refusal) → result ≡ ListEnd.Refused r → r.code ≡ code }
+    ensures refused { (r : Refusal) → result ≡ ListEnd.Refused r → r.code ≡ 21 }
     ensures line { IsTrue (O.tells out.old) → (r : Refusal) → result ≡ ListEnd.Refused r → O.bytes out.new ≡ O.bytes out.old ++ refusal_line r }
 {
-    match of_file(alloc, code, file, name) {
+    match of_file(alloc, 21, file, "atoms") {
         Ok(refusal) => refuse(alloc, out, refusal),
         Err(_) => ListEnd::Memory,
     }
 }
 
-/// Lists what the bytes of a file lead to.
-fn list_bytes<O: Sink>(alloc: Global, file: &str, bytes: &[u8], out: &mut O) -> ListEnd
-    requires { length bytes.now ≤ 2 ^ 20 }
-    ensures put { IsTrue (O.tells out.old) → IsAnswered (Some bytes.now) file.now (O.bytes out.old) (O.bytes out.new) result }
+/// Puts the list of the truths of a theory's minimal models.
+fn list_truths<O: Sink>(alloc: Global, out: &mut O, accepted: &Accepted, truths: &[Row]) -> ListEnd
+    requires numbered { accepted.now.atoms ≡ accepted.now.theory.signature }
+    requires few { length truths.now < 2 ^ 32 }
+    ensures put { IsTrue (O.tells out.old) → (held : List ℕ → Option (List ℕ)) (file : List ℕ) →
+        IsListed held file (length truths.now) (list_text accepted.now.theory.signature truths.now (complete (length truths.now))) →
+        IsAnswered held file (O.bytes out.old) (O.bytes out.new) result }
     ensures files { result ≡ ListEnd.Files → ⊥ }
     ensures failed { result ≡ ListEnd.Out → Rose (O.faults out.old) (O.faults out.new) }
-    ensures refused { (r : Refusal) → result ≡ ListEnd.Refused r → r.code ≡ 1 → ⊥ }
+    ensures refused { (r : Refusal) → result ≡ ListEnd.Refused r → ⊥ }
+{
+    let put = put_list(alloc, out, accepted, truths);
+    answered(put, ListEnd::Complete(truths.len() as u64))
+}
+
+/// Lists the narratives of a theory, unless it has too many visible atoms.
+fn list_accepted<O: Sink>(alloc: Global, file: &str, accepted: &Accepted, out: &mut O) -> ListEnd
+    requires valid { IsValidTheory (theory_of accepted.now.theory) }
+    requires numbered { accepted.now.atoms ≡ accepted.now.theory.signature }
+    ensures put { IsTrue (O.tells out.old) → (held : List ℕ → Option (List ℕ)) → IsAccepted held file.now (Ok (theory_of accepted.now.theory)) →
+        IsAnswered held file.now (O.bytes out.old) (O.bytes out.new) result }
+    ensures files { result ≡ ListEnd.Files → ⊥ }
+    ensures failed { result ≡ ListEnd.Out → Rose (O.faults out.old) (O.faults out.new) }
+    ensures refused { (r : Refusal) → result ≡ ListEnd.Refused r → r.code ≡ 21 }
     ensures line { IsTrue (O.tells out.old) → (r : Refusal) → result ≡ ListEnd.Refused r → O.bytes out.new ≡ O.bytes out.old ++ refusal_line r }
 {
-    match outcome_of(alloc, file, bytes) {
-        Ok(Outcome::Listed { count, text }) => put(out, &text, ListEnd::Complete(count)),
-        Ok(Outcome::Refused(refusal)) => refuse(alloc, out, refusal),
+    if accepted.atoms.visible() > MOST_ATOMS {
+        return refuse_atoms(alloc, out, file);
+    }
+    match models(alloc, &accepted.theory, &accepted.atoms) {
+        Ok(truths) => list_truths(alloc, out, accepted, &truths),
         Err(_) => ListEnd::Memory,
     }
 }
@@ -137,10 +115,10 @@ fn list_bytes<O: Sink>(alloc: Global, file: &str, bytes: &[u8], out: &mut O) -> 
 /// Lists the narratives of a file: the visible truths of all minimal models of what it says, in
 /// rising order, or its refusal.
 ///
-/// It tries each truth of the visible atoms, at most 2^16.
+/// It tries each truth of the visible atoms, at most 2^16, and holds those found and one narrative.
 pub fn list<F: Files, O: Sink>(alloc: Global, files: &mut F, file: &str, out: &mut O) -> ListEnd
     ensures put { IsTrue (F.tells files.old) → IsTrue (O.tells out.old) →
-        IsAnswered (F.held files.old file.now) file.now (O.bytes out.old) (O.bytes out.new) result }
+        IsAnswered (F.held files.old) file.now (O.bytes out.old) (O.bytes out.new) result }
     ensures nothing { IsTrue (O.tells out.old) → result ≡ ListEnd.Files → O.bytes out.new ≡ O.bytes out.old }
     ensures files { result ≡ ListEnd.Files → Rose (F.faults files.old) (F.faults files.new) }
     ensures failed { result ≡ ListEnd.Out → Rose (O.faults out.old) (O.faults out.new) }
@@ -148,15 +126,10 @@ pub fn list<F: Files, O: Sink>(alloc: Global, files: &mut F, file: &str, out: &m
     ensures line { IsTrue (O.tells out.old) → (r : Refusal) → result ≡ ListEnd.Refused r → O.bytes out.new ≡ O.bytes out.old ++ refusal_line r }
     ensures stays { AllStay (F.held files.old) (F.held files.new) }
 {
-    match read_whole(alloc, files, file, FILE_LIMIT) {
-        Ok(whole) => {
-            if whole.past {
-                return refuse_file(alloc, out, 22, file, "form");
-            }
-            list_bytes(alloc, file, &whole.bytes, out)
-        }
-        Err(FileFault::Absent) => refuse_file(alloc, out, 1, file, file),
-        Err(FileFault::Failed) => ListEnd::Files,
-        Err(FileFault::Memory) => ListEnd::Memory,
+    match accept(alloc, files, file) {
+        Ok(accepted) => list_accepted(alloc, file, &accepted, out),
+        Err(AcceptFault::Refused(refusal)) => refuse(alloc, out, refusal),
+        Err(AcceptFault::Files) => ListEnd::Files,
+        Err(AcceptFault::Memory) => ListEnd::Memory,
     }
 }

@@ -1,8 +1,11 @@
 //! The text of refusals.
-ghost use Rattle.std.specs.Prelude.{◌≡◌, ◌++◌, IfOk, OnOk};
-ghost use Rattle.ec_engine.specs.Refusals.{two_digits, refusal_line, of_file};
+ghost use Rattle.std.specs.Prelude.{◌≡◌, ◌≤◌, ◌++◌, IfOk, IsErrOf, IsTrue, OnErr, OnOk};
+ghost use Rattle.ec_edge.specs.Causes.{Rose};
+ghost use Rattle.ec_edge.specs.Pieces.{AppendsPrefix};
+ghost use Rattle.ec_load.specs.Refusals.{in_file, refused};
+ghost use Rattle.ec_engine.specs.Refusals.{two_digits, refusal_line};
 
-use ec_edge::push_number;
+use ec_edge::{Sink, SinkFault, push_number, put_text};
 use ec_lex::word::Word;
 use ec_syntax::book::Refusal;
 use std::alloc::{AllocError, Global};
@@ -16,7 +19,7 @@ fn push_two_digits(out: &mut Vec<u8>, n: u8) -> Result<(), AllocError>
 }
 
 /// The line of a refusal.
-pub fn refusal_text(alloc: Global, refusal: &Refusal) -> Result<Vec<u8>, AllocError>
+fn refusal_text(alloc: Global, refusal: &Refusal) -> Result<Vec<u8>, AllocError>
     ensures { IfOk result (λ text. text.items ≡ refusal_line refusal.now) }
 {
     let mut out = Vec::from_slice(alloc, b"refused E")?;
@@ -31,9 +34,19 @@ pub fn refusal_text(alloc: Global, refusal: &Refusal) -> Result<Vec<u8>, AllocEr
     Ok(out)
 }
 
+/// Puts the line of a refusal. After a fault the sink has gained a prefix of it.
+pub fn put_refusal<O: Sink>(alloc: Global, out: &mut O, refusal: &Refusal) -> Result<(), SinkFault>
+    ensures ok { IsTrue (O.tells out.old) → OnOk result (O.bytes out.new ≡ O.bytes out.old ++ refusal_line refusal.now) }
+    ensures part { IsTrue (O.tells out.old) → OnErr result (AppendsPrefix (refusal_line refusal.now) (O.bytes out.old) (O.bytes out.new)) }
+    ensures failed { IsErrOf result SinkFault.Failed → Rose (O.faults out.old) (O.faults out.new) }
+{
+    let text = refusal_text(alloc, refusal)?;
+    put_text(out, &text)
+}
+
 /// A refusal of a whole file.
 pub fn of_file(alloc: Global, code: u8, file: &str, name: &str) -> Result<Refusal, AllocError>
-    ensures { IfOk result (λ refusal. refusal ≡ of_file code file.now name.now) }
+    ensures { IfOk result (λ refusal. refusal ≡ refused code (in_file file.now 0) name.now) }
 {
     let file = Word::of(alloc, file.as_bytes())?;
     let name = Word::of(alloc, name.as_bytes())?;
