@@ -18,21 +18,21 @@ pub usage_part : (words : List (List ℕ)) (held : List ℕ → Option (List ℕ
 usage_part words held before after none put = record { answered = status.Usage; text = codes "usage\n"; due = usage none; put = put }
 
 module _ (words : List (List ℕ)) (held : List ℕ → Option (List ℕ)) (file : List ℕ) (asked : job_of words ≡ Some (job.List file)) where
-  due_part : (before after : List ℕ) (answer : ListEnd) (text : List ℕ) → IsDue (held file) file answer text → AppendsPrefix text before after → PutsPart words held before after
+  due_part : (before after : List ℕ) (answer : ListEnd) (text : List ℕ) → IsDue held file answer text → AppendsPrefix text before after → PutsPart words held before after
   due_part before after (end.Complete count) text due put = record { answered = status.Complete; text = text; due = listed asked due; put = put }
   due_part before after (end.Refused r) text due put = record { answered = status.Refused; text = text; due = refused asked due; put = put }
   due_part before after end.Files text due put = absurd due
   due_part before after end.Out text due put = absurd due
   due_part before after end.Memory text due put = absurd due
 
-  part : (before after : List ℕ) → PutsPrefix (held file) file before after → PutsPart words held before after
+  part : (before after : List ℕ) → PutsPrefix held file before after → PutsPart words held before after
   part before after p = due_part before after p.answer p.text p.due p.put
 
-  nothing_or_part : (before after : List ℕ) → (after ≡ before) ⊎ PutsPrefix (held file) file before after → (after ≡ before) ⊎ PutsPart words held before after
+  nothing_or_part : (before after : List ℕ) → (after ≡ before) ⊎ PutsPrefix held file before after → (after ≡ before) ⊎ PutsPart words held before after
   nothing_or_part before after (inl same) = inl same
   nothing_or_part before after (inr p) = inr (part before after p)
 
-  pub list_run : (before after : List ℕ) (answer : ListEnd) → IsAnswered (held file) file before after answer → IsRun words held before after (status_of answer)
+  pub list_run : (before after : List ℕ) (answer : ListEnd) → IsAnswered held file before after answer → IsRun words held before after (status_of answer)
   list_run before after (end.Complete count) p = record { text = p.text; due = listed asked p.due; put = p.put }
   list_run before after (end.Refused r) p = record { text = p.text; due = refused asked p.due; put = p.put }
   list_run before after end.Files p = p

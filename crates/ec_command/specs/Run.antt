@@ -14,9 +14,9 @@ use Rattle.ec_command.specs.Words.{job_of}
 -- The status and the text that are due for these words, where the names hold this.
 pub data IsDueFor : List (List ℕ) → (List ℕ → Option (List ℕ)) → Status → List ℕ → Type 0 where
   usage : {words : List (List ℕ)} {held : List ℕ → Option (List ℕ)} → job_of words ≡ None → IsDueFor words held status.Usage (codes "usage\n")
-  listed : {words : List (List ℕ)} {held : List ℕ → Option (List ℕ)} {file text : List ℕ} {count : ℕ} → job_of words ≡ Some (job.List file) → IsDue (held file) file (end.Complete count) text
+  listed : {words : List (List ℕ)} {held : List ℕ → Option (List ℕ)} {file text : List ℕ} {count : ℕ} → job_of words ≡ Some (job.List file) → IsDue held file (end.Complete count) text
       → IsDueFor words held status.Complete text
-  refused : {words : List (List ℕ)} {held : List ℕ → Option (List ℕ)} {file text : List ℕ} {refusal : Refusal} → job_of words ≡ Some (job.List file) → IsDue (held file) file (end.Refused refusal) text
+  refused : {words : List (List ℕ)} {held : List ℕ → Option (List ℕ)} {file text : List ℕ} {refusal : Refusal} → job_of words ≡ Some (job.List file) → IsDue held file (end.Refused refusal) text
       → IsDueFor words held status.Refused text
 
 -- the text that is due with the status was put
