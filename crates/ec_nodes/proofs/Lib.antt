@@ -1,0 +1,5 @@
+mod FoldedNodes
+mod Sums
+mod PathWeights
+mod EffectAtoms
+pub mod GroundNodes
