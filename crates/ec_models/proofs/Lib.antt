@@ -3,4 +3,5 @@ pub mod Branches
 pub mod Finding
 pub mod VisibleParts
 pub mod Leaves
+pub mod EarlyLaws
 pub mod Steps

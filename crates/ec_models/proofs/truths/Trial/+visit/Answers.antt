@@ -35,7 +35,7 @@ visit-requires t c =
     let signature = c.args.self.now.theory.now.signature in
     let count = count_moved c.args.self.now.atoms.now signature c.visible.result c.requires.of c.visible.ensures.count in
     let size = ap length c.set.ensures ∙ (length-set c.args.structure.now c.args.atom false ∙ c.requires.all) in
-    (omega (arith, c.decreases, c.requires.visible, c.if-atom-visible.false, count), (c.requires.judge, (c.requires.of, (c.requires.valid, (size, omega (arith, c.requires.visible, c.if-atom-visible.false, count))))))
+    (omega (arith, c.decreases, c.requires.visible, c.if-atom-visible.false, count), (c.requires.judge, (c.requires.of, (c.requires.valid, (c.requires.early, (size, omega (arith, c.requires.visible, c.if-atom-visible.false, count)))))))
 
 pub set-requires-2 : goal.set-requires-2
 set-requires-2 t c =
@@ -57,7 +57,7 @@ visit-requires-2 t c =
     let count = count_moved c.args.self.now.atoms.now signature c.visible.result c.requires.of c.visible.ensures.count in
     let size = c.in_ok-visit.ensures.size ∙ (ap length c.set.ensures ∙ (length-set c.args.structure.now c.args.atom false ∙ c.requires.all)) in
     let size-2 = ap length c.set-2.ensures ∙ (length-set c.visit.new.structure c.args.atom true ∙ size) in
-    (omega (arith, c.decreases, c.requires.visible, c.if-atom-visible.false, count), (c.in_ok-visit.ensures.judge, (c.requires.of, (c.requires.valid, (size-2, omega (arith, c.requires.visible, c.if-atom-visible.false, count))))))
+    (omega (arith, c.decreases, c.requires.visible, c.if-atom-visible.false, count), (c.in_ok-visit.ensures.judge, (c.requires.of, (c.requires.valid, (c.requires.early, (size-2, omega (arith, c.requires.visible, c.if-atom-visible.false, count)))))))
 
 pub returns-clause-same : goal.returns-clause-same
 returns-clause-same t c =

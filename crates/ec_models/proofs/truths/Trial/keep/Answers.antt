@@ -1,7 +1,14 @@
-use Rattle.std.proofs.Common.{◌∙◌, ◌++◌, ◌∷◌, [], ap, Bool, List}
+use Rattle.std.proofs.Common.{◌∙◌, ◌++◌, ◌∷◌, [], take, ap, Bool, List}
 use Rattle.ec_theory.specs.Theories.{theory_of}
+use Rattle.ec_models.specs.Tried.{visible_count}
+use Rattle.ec_models.proofs.Finding.{tried_passed}
 use Rattle.ec_models.proofs.Leaves.{visible_kept, kept_minimal, kept_other}
 use Rattle.ec_models.proofs.truths.Trial.keep.Goals as goal
+
+pub returns-then-not-passes_early-clause-found : goal.returns-then-not-passes_early-clause-found
+returns-then-not-passes_early-clause-found c =
+    let theory = c.args.self.now.theory.now in
+    tried_passed (theory_of theory) (take (visible_count theory.signature) c.args.structure.now) c.args.found.now.items (c.passes_early.ensures.other c.if-not-passes_early.true)
 
 pub visible_truth-requires : goal.visible_truth-requires
 visible_truth-requires c = record { of = c.requires.of; all = c.in_ok-least_effects.ensures.size ∙ c.requires.all }
