@@ -1,0 +1,7 @@
+//! Structures of small theories and what is said of them, worked by hand. It holds tests alone, and what
+//! makes a structure for them.
+#![tactic(auto)]
+
+mod structures;
+#[cfg(test)]
+mod verdicts;
