@@ -1,109 +1,72 @@
 //! The first of two faults in a book. Each row stands behind the same declarations, on line 10.
 use crate::listed::listed;
 use ec_command::Status;
+use std::alloc::Global;
 use std::test::Fail;
 
 const DECLARED: &str =
     "sort a\nsort b\na Jim\nb Bob\nrange time 0 3\npredicate P(a)\npredicate Q(b)\npredicate T(time)\npredicate R(a,b)\n";
 
-/// What is refused first, by line and text. `X` and `zz` are never declared.
+/// Whether this refusal is put for these statements behind the declarations.
+fn is_refused(alloc: Global, text: &str, want: &str) -> Result<bool, Fail> {
+    let mut whole = String::from_str(alloc, DECLARED)?;
+    whole.push_str(text)?;
+    let (out, status) = listed(alloc, &whole)?;
+    let mut line = String::from_str(alloc, "refused ")?;
+    line.push_str(want)?;
+    line.push('\n')?;
+    Ok(status == Status::Refused && out.bytes() == line.as_bytes())
+}
+
+/// A name stands before its arguments, an argument before the next one, binders before their scope. `X` and
+/// `zz` are never declared.
 #[test]
-fn first_faults(rt: HostRuntime) -> Result<(), Fail> {
+fn of_sentences(rt: HostRuntime) -> Result<(), Fail> {
     let alloc = rt.alloc();
-    let rows = [
-        // A name stands before its arguments: unknown, then their number, then its kind.
+    let rows: [(&str, &str); 16] = [
         ("P(X,X).", "E11 t.e:10: P"),
-        ("P(zz,zz).", "E11 t.e:10: P"),
-        ("Z(X).", "E09 t.e:10: Z"),
-        ("P(Q).", "E11 t.e:10: Q"),
         ("P(Q(X)).", "E12 t.e:10: Q"),
         ("Jim & P(X).", "E12 t.e:10: Jim"),
-        ("Jim(X).", "E11 t.e:10: Jim"),
-        ("Happens(X,0,1).", "E11 t.e:10: Happens"),
-        // Each argument is judged before the next is walked.
         ("R(Bob,X).", "E12 t.e:10: a"),
         ("R(X,Jim).", "E09 t.e:10: X"),
-        ("R(Jim,Jim) & P(X).", "E12 t.e:10: b"),
         ("P(X) & R(Jim,Jim).", "E09 t.e:10: X"),
-        ("HoldsAt(Jim,X).", "E12 t.e:10: fluent"),
         ("fluent F(a)\nHoldsAt(F(Bob),X).", "E12 t.e:11: a"),
-        ("T(event) & P(X).", "E12 t.e:10: time"),
-        // So is each operand, and a comparison after both of its sides.
-        ("T(2+X).", "E09 t.e:10: X"),
         ("T(Jim+X).", "E12 t.e:10: integer"),
-        ("T(X+Jim).", "E09 t.e:10: X"),
         ("Jim<X.", "E09 t.e:10: X"),
-        ("Jim<Bob & P(X).", "E12 t.e:10: <"),
-        ("Jim=1 & P(X).", "E12 t.e:10: ="),
         ("Jim!=1 | P(X).", "E12 t.e:10: !="),
-        ("Jim=Bob & P(X).", "E09 t.e:10: X"),
-        // At one argument: it doesn't fit, arithmetic too large in any part, out of range.
-        ("P(1000000000*1000000000*1000000000).", "E12 t.e:10: a"),
-        (
-            "T(1000000000*1000000000*1000000000).",
-            "E14 t.e:10: arithmetic",
-        ),
-        (
-            "T(0*(1000000000*1000000000*1000000000)).",
-            "E14 t.e:10: arithmetic",
-        ),
         ("T(9*(0-9)) & P(X).", "E13 t.e:10: -81"),
-        ("T(-1) & P(X).", "E13 t.e:10: -1"),
-        ("1000000000*1000000000*1000000000=Jim.", "E12 t.e:10: ="),
-        (
-            "1000000000*1000000000*1000000000=1 & P(X).",
-            "E14 t.e:10: arithmetic",
-        ),
         // 2^58 times 16 is 2^62, which may be met and not be passed.
-        ("536870912*536870912*16=0 & P(X).", "E09 t.e:10: X"),
         ("-536870912*536870912*16=0 & P(X).", "E09 t.e:10: X"),
-        ("0-536870912*536870912*16=0 & P(X).", "E09 t.e:10: X"),
         (
             "536870912*536870912*16+1=0 & P(X).",
             "E14 t.e:10: arithmetic",
         ),
-        ("536870912*536870912*17=0 & P(X).", "E14 t.e:10: arithmetic"),
-        // Variables: of no sort, without a range, then too many; binders stand before their scope.
         ("T(offset) & P(X).", "E08 t.e:10: offset"),
         (
             "[a1,a2,a3,a4,a5,a6,a7,a8,a9,a10,a11,a12,a13,a14,a15,a16,zz] P(X).",
             "E06 t.e:10: zz",
-        ),
-        (
-            "[a1,a2,a3,a4,a5,a6,a7,a8,a9,a10,a11,a12,a13,a14,a15,a16,a17] P(X).",
-            "E15 t.e:10: binders",
-        ),
-        (
-            "[a1,a2,a3,a4,a5,a6,a7,a8,a9,a10,a11,a12,a13,a14,a15,a16] P(X).",
-            "E09 t.e:10: X",
         ),
         // A free variable counts at each binder, also where it comes later.
         (
             "[b] Q(X) & R(a1,b)&P(a2)&P(a3)&P(a4)&P(a5)&P(a6)&P(a7)&P(a8)&P(a9)&P(a10)&P(a11)&P(a12)&P(a13)&P(a14)&P(a15)&P(a16).",
             "E15 t.e:10: binders",
         ),
-        (
-            "P(a1)&P(a2)&P(a3)&P(a4)&P(a5)&P(a6)&P(a7)&P(a8)&P(a9)&P(a10)&P(a11)&P(a12)&P(a13)&P(a14)&P(a15)&P(a16)&P(a17)&P(X).",
-            "E15 t.e:10: binders",
-        ),
-        // The longest sort that spells a variable counts.
-        (
-            "sort s\nsort s1\npredicate S(s)\nS(s2) & S(s1) & P(X).",
-            "E12 t.e:13: s",
-        ),
-        (
-            "sort s\nsort s1\npredicate S(s)\nS(s11) & P(X).",
-            "E12 t.e:13: s",
-        ),
-        // A constant fits the sorts above its own, and no sort below.
-        ("sort c: a\nc Tom\nP(Tom) & P(X).", "E09 t.e:12: X"),
-        ("sort c: a\npredicate C(c)\nC(Jim) & P(X).", "E12 t.e:12: c"),
-        // Words of a declaration in the order written, the tests at one word in their order.
+    ];
+    for (text, want) in rows {
+        assert!(rt; is_refused(alloc, text, want)?, "at {text}");
+    }
+    Ok(())
+}
+
+/// The words of a declaration in the order written, the tests at one word in their order.
+#[test]
+fn of_declarations(rt: HostRuntime) -> Result<(), Fail> {
+    let alloc = rt.alloc();
+    let rows: [(&str, &str); 18] = [
         ("sort a: zz", "E07 t.e:10: a"),
         ("sort c: zz, a: b", "E06 t.e:10: zz"),
         ("sort c: d\nsort d: e\nsort e: c\nP(X).", "E07 t.e:10: c"),
         ("range time 0 3\nP(X).", "E09 t.e:11: X"),
-        ("range time 0 4\nP(X).", "E07 t.e:10: time"),
         ("range time 5 1", "E07 t.e:10: time"),
         ("range zz 5 1", "E06 t.e:10: zz"),
         ("range a 5 1", "E08 t.e:10: a"),
@@ -114,20 +77,37 @@ fn first_faults(rt: HostRuntime) -> Result<(), Fail> {
         ("a Jim, Bob", "E07 t.e:10: Bob"),
         ("event Jim(zz)", "E07 t.e:10: Jim"),
         ("predicate P(b), Z(zz)", "E07 t.e:10: P"),
-        ("predicate Z(zz,offset)", "E06 t.e:10: zz"),
         ("predicate Z(offset,zz)", "E08 t.e:10: offset"),
         ("event Z(event,zz)", "E12 t.e:10: event"),
         ("predicate Z(event,zz)", "E06 t.e:10: zz"),
-        ("noninertial X, P", "E09 t.e:10: X"),
         ("noninertial P, X", "E12 t.e:10: P"),
-        // Statements in book order; the first declaration counts, also where it stands later.
+    ];
+    for (text, want) in rows {
+        assert!(rt; is_refused(alloc, text, want)?, "at {text}");
+    }
+    Ok(())
+}
+
+/// Statements in book order, and all of them before the groups: 18 and 17 by statement, then 16 by sentence.
+#[test]
+fn of_statements(rt: HostRuntime) -> Result<(), Fail> {
+    let alloc = rt.alloc();
+    let rows: [(&str, &str); 16] = [
+        // The longest sort that spells a variable counts.
+        (
+            "sort s\nsort s1\npredicate S(s)\nS(s2) & S(s1) & P(X).",
+            "E12 t.e:13: s",
+        ),
+        // A constant fits the sorts above its own, and no sort below.
+        ("sort c: a\nc Tom\nP(Tom) & P(X).", "E09 t.e:12: X"),
+        ("sort c: a\npredicate C(c)\nC(Jim) & P(X).", "E12 t.e:12: c"),
+        // The first declaration counts, also where it stands later.
         ("Z(X).\npredicate Z(a,a)", "E11 t.e:10: Z"),
         ("predicate Z(a)\npredicate Z(b)\nZ(X).", "E07 t.e:11: Z"),
         ("P(X).\nxor P, Q", "E09 t.e:10: X"),
         ("xor P, Q\nP(X).", "E22 t.e:10: xor"),
         ("reified sort a\nP(X).", "E22 t.e:10: a"),
         ("reified sort fluent\nP(X).", "E09 t.e:11: X"),
-        // All of these stand before the groups: 18 and 17 by statement, then 16 by sentence.
         ("completion X\nP(X).", "E09 t.e:11: X"),
         (
             "completion A P\ncompletion B P\ncompletion X",
@@ -142,16 +122,11 @@ fn first_faults(rt: HostRuntime) -> Result<(), Fail> {
             "completion L Initiates\nL: !P(Jim).",
             "E17 t.e:10: Initiates",
         ),
+        ("completion P\ncompletion L P", "E17 t.e:11: P"),
+        ("completion P\ncompletion P\nP(X).", "E09 t.e:12: X"),
     ];
     for (text, want) in rows {
-        let mut whole = String::from_str(alloc, DECLARED)?;
-        whole.push_str(text)?;
-        let (out, status) = listed(alloc, &whole)?;
-        let mut line = String::from_str(alloc, "refused ")?;
-        line.push_str(want)?;
-        line.push('\n')?;
-        assert_eq!(rt; status, Status::Refused, "at {text}");
-        assert_eq!(rt; out.bytes(), line.as_bytes(), "at {text}");
+        assert!(rt; is_refused(alloc, text, want)?, "at {text}");
     }
     Ok(())
 }
@@ -160,7 +135,7 @@ fn first_faults(rt: HostRuntime) -> Result<(), Fail> {
 #[test]
 fn no_clauses(rt: HostRuntime) -> Result<(), Fail> {
     let alloc = rt.alloc();
-    let rows = [
+    let rows: [(&str, &str); 14] = [
         // A node that is none of the four forms is named by the label.
         ("L: {a} P(a).", "E16 t.e:10: L"),
         ("L: P(Jim) | Q(Bob).", "E16 t.e:10: L"),
@@ -183,15 +158,9 @@ fn no_clauses(rt: HostRuntime) -> Result<(), Fail> {
         ("L: P(Jim).\nL: T(0).\nL: !P(Jim).", "E16 t.e:11: T"),
     ];
     for (text, want) in rows {
-        let mut whole = String::from_str(alloc, DECLARED)?;
-        whole.push_str(text)?;
+        let mut whole = String::from_str(alloc, text)?;
         whole.push_str("\ncompletion L P\ncompletion L Q\n")?;
-        let (out, status) = listed(alloc, &whole)?;
-        let mut line = String::from_str(alloc, "refused ")?;
-        line.push_str(want)?;
-        line.push('\n')?;
-        assert_eq!(rt; status, Status::Refused, "at {text}");
-        assert_eq!(rt; out.bytes(), line.as_bytes(), "at {text}");
+        assert!(rt; is_refused(alloc, &whole, want)?, "at {text}");
     }
     Ok(())
 }
