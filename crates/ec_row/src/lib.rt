@@ -1,8 +1,7 @@
 //! Rows of truth values, packed in words.
 //!
-//! A [`Row`] is seen as its list of truth values. Rows are ordered by these lists, false before true, the
-//! first place first, and compared a word at a time. Only the making of a row takes memory. The crate stands
-//! on no other.
+//! A [`Row`] is seen as its list of truth values, packed with the first place in the highest bit of its first
+//! word. Only the making of a row takes memory. The crate stands on no other.
 #![tactic(auto)]
 
 mod bits;
