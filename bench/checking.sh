@@ -1,20 +1,14 @@
 #!/usr/bin/env bash
-# Times `dec list` on files of about 1 MB with many names: all are read, sorted and numbered, and refused then for their many atoms.
+# Times `dec list` on files of about 1 MB with many names: all are read, sorted, split, numbered and weighed, and refused then for
+# their weight or their many atoms.
 set -eu
-here=$(cd "$(dirname "${BASH_SOURCE[0]}")/.." && pwd)
-folder=$(mktemp -d)
-trap 'rm -rf "$folder"' EXIT
+source "$(dirname "${BASH_SOURCE[0]}")/measure.sh"
 
 # One line: the file, its bytes, the least processor time of five runs, and what the program put first.
 measure() {
-    local file=$1 run
-    local TIMEFORMAT='%3U %3S'
-    for run in 1 2 3 4 5; do
-        { time "$here/dec" list "$folder/$file" >"$folder/out" || true; } 2>&1
-    done | awk -v file="$file" -v bytes="$(wc -c <"$folder/$file")" '
-        { used = $1 + $2; if (NR == 1 || used < least) least = used }
-        END { printf "%-12s %8d bytes %6.3f s", file, bytes, least }'
-    printf '  %s\n' "$(head -n 1 "$folder/out")"
+    local seconds
+    seconds=$(least_time 5 "$1")
+    printf '%-12s %8d bytes %6.3f s  %s\n' "$1" "$(bytes_of "$1")" "$seconds" "$(head -n 1 "$folder/out")"
 }
 
 # So many constants, and so many sentences, each about one of them.
@@ -36,7 +30,6 @@ chain() {
     }'
 }
 
-"$here/dec" list "$here/examples/pq.e" >"$folder/out"
 names 100000 10000 >"$folder/constants"
 names 50000 35000 >"$folder/sentences"
 chain 1000 >"$folder/chain"

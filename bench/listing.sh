@@ -1,23 +1,14 @@
 #!/usr/bin/env bash
 # Times `dec list` on files of 16 visible atoms, where each of 65,536 truths is tried.
 set -eu
-here=$(cd "$(dirname "${BASH_SOURCE[0]}")/.." && pwd)
-folder=$(mktemp -d)
-trap 'rm -rf "$folder"' EXIT
+source "$(dirname "${BASH_SOURCE[0]}")/measure.sh"
 
 # One line: the file, the least processor time of three runs, and the last line of the list.
 measure() {
-    local file=$1 run
-    local TIMEFORMAT='%3U %3S'
-    for run in 1 2 3; do
-        { time "$here/dec" list "$folder/$file" >"$folder/out" || true; } 2>&1
-    done | awk -v file="$file" '
-        { used = $1 + $2; if (NR == 1 || used < least) least = used }
-        END { printf "%-12s %6.3f s", file, least }'
-    printf '  %s\n' "$(tail -n 1 "$folder/out")"
+    local seconds
+    seconds=$(least_time 3 "$1")
+    printf '%-12s %6.3f s  %s\n' "$1" "$seconds" "$(tail -n 1 "$folder/out")"
 }
-
-"$here/dec" list "$here/examples/pq.e" >"$folder/out"
 
 # A fluent, two events, four times: what may have happened.
 cat >"$folder/light" <<'END'

@@ -1,9 +1,7 @@
 #!/usr/bin/env bash
 # Times `dec list` on files of about 1 MiB that are long in one way each. Each run ends with a list or a refusal.
 set -eu
-here=$(cd "$(dirname "${BASH_SOURCE[0]}")/.." && pwd)
-folder=$(mktemp -d)
-trap 'rm -rf "$folder"' EXIT
+source "$(dirname "${BASH_SOURCE[0]}")/measure.sh"
 
 # The text so many times.
 repeat() {
@@ -12,14 +10,11 @@ repeat() {
 
 # One line: the file, its bytes, the least processor time of five runs, the speed, and what the program put first.
 measure() {
-    local file=$1 run
-    local TIMEFORMAT='%3U %3S'
-    for run in 1 2 3 4 5; do
-        { time "$here/dec" list "$folder/$file" >"$folder/out" || true; } 2>&1
-    done | awk -v file="$file" -v bytes="$(wc -c <"$folder/$file")" '
-        { used = $1 + $2; if (NR == 1 || used < least) least = used }
-        END { printf "%-12s %8d bytes %6.3f s %6.1f MB/s", file, bytes, least, bytes / 1e6 / (least > 0.001 ? least : 0.001) }'
-    printf '  %s\n' "$(head -n 1 "$folder/out")"
+    local seconds bytes
+    seconds=$(least_time 5 "$1")
+    bytes=$(bytes_of "$1")
+    awk -v file="$1" -v bytes="$bytes" -v least="$seconds" -v put="$(head -n 1 "$folder/out")" 'BEGIN {
+        printf "%-12s %8d bytes %6.3f s %6.1f MB/s  %s\n", file, bytes, least, bytes / 1e6 / (least > 0.001 ? least : 0.001), put }'
 }
 
 cd "$folder"
