@@ -14,7 +14,7 @@ length_bits words n = length-map-range_with_len (bit_in words) 0 n
 pub word_within : (words : List ℕ) (n i : ℕ) → IsPacked words n → i < n → i / 64 < length words
 word_within words n i packed h = let c = packed.count in let d : i / 64 < (n + 63) / 64 = omega (arith, h) in omega (arith, c, d)
 
-get_bits : (words : List ℕ) (n i : ℕ) (d : Bool) → i < n → get_or (bits_in words n) i d ≡ bit_in words i
+pub get_bits : (words : List ℕ) (n i : ℕ) (d : Bool) → i < n → get_or (bits_in words n) i d ≡ bit_in words i
 get_bits words n i d h = get_or-map-range_with_len (bit_in words) 0 n i i d h (omega arith)
 
 pub bit_read : (words : List ℕ) (n i : ℕ) → i < n → slice_get (bits_in words n) i ≡ Some (bit_in words i)

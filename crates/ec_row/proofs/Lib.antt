@@ -1,1 +1,3 @@
 pub mod BitLemmas
+pub mod OrderLaws
+pub mod WordOrder

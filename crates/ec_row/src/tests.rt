@@ -2,6 +2,7 @@
 
 use crate::Row;
 use std::alloc::Global;
+use std::cmp::Ordering;
 use std::process::Abort;
 
 fn bit(rt: &impl Abort, row: &Row, place: usize) -> bool {
@@ -50,4 +51,46 @@ fn bits_are_kept_in_order(rt: HostRuntime) {
     assert!(&rt;
         bit(&rt, &row, 0) && !bit(&rt, &row, 1) && !bit(&rt, &row, 2) && bit(&rt, &row, 3)
     );
+}
+
+fn row_with(rt: &impl Abort, alloc: Global, len: usize, place: usize) -> Row {
+    let mut row = Row::of_len(alloc, len).expect(rt, "memory");
+    if place < row.len() {
+        row.set(place, true);
+    }
+    row
+}
+
+// Of each row the length and its one place that is true (none where that is the length), and which of the two rows
+// comes first.
+#[test]
+fn rows_are_ordered(rt: HostRuntime) {
+    let alloc = rt.alloc();
+    for (len, place, other_len, other_place, expected) in [
+        (0_usize, 0_usize, 0_usize, 0_usize, Ordering::Equal),
+        (0, 0, 1, 1, Ordering::Less),
+        (1, 0, 1, 1, Ordering::Greater),
+        (64, 63, 64, 64, Ordering::Greater),
+        (64, 0, 64, 63, Ordering::Greater),
+        (65, 64, 65, 63, Ordering::Less),
+        (65, 64, 65, 65, Ordering::Greater),
+        (130, 128, 130, 127, Ordering::Less),
+        (130, 129, 130, 128, Ordering::Less),
+        (130, 70, 130, 70, Ordering::Equal),
+        (63, 63, 64, 64, Ordering::Less),
+        (64, 64, 65, 65, Ordering::Less),
+        (64, 64, 65, 64, Ordering::Less),
+        (64, 10, 65, 10, Ordering::Less),
+        (70, 70, 65, 65, Ordering::Greater),
+        (64, 0, 65, 65, Ordering::Greater),
+        (64, 0, 200, 1, Ordering::Greater),
+    ] {
+        let row = row_with(&rt, alloc, len, place);
+        let other = row_with(&rt, alloc, other_len, other_place);
+        assert!(&rt; row.cmp(&other) == expected);
+        assert!(&rt; other.cmp(&row) == expected.reverse());
+        assert!(&rt; row.partial_cmp(&other) == Some(expected));
+        assert!(&rt; (row == other) == expected.is_eq());
+        assert!(&rt; (row < other) == expected.is_lt());
+    }
 }
