@@ -1,6 +1,1 @@
-pub mod SortLemmas
-pub mod RowLemmas
-pub mod TermLemmas
-pub mod StackLemmas
 pub mod FormulaLemmas
-pub mod AtomLemmas

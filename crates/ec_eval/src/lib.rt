@@ -3,17 +3,13 @@
 //!
 //! `holds` evaluates a sentence lazily and takes no memory. `mark_supported` goes over a clause tree and
 //! marks the heads of the instances of its paths whose bodies are true, each instance once. The crate
-//! stands on `ec_theory` for trees and signatures and on `ec_atom` for the numbers of atoms.
+//! stands on `ec_theory` for trees and signatures, on `ec_atom` for structures' atoms and on `ec_values` for
+//! the values of terms and the ranges of binders.
 #![tactic(auto)]
 
-mod domains;
 mod marking;
-mod places;
-mod rows;
 mod scratch;
 mod structure;
-mod symbol;
-mod terms;
 mod truth;
 
 pub use marking::mark_supported;

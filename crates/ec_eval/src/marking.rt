@@ -12,13 +12,12 @@ ghost use Rattle.ec_logic.specs.Reading.{AreReadableTerms, IsReadable, AreReadab
 ghost use Rattle.ec_logic.specs.ValidTheory.{IsSentence};
 ghost use Rattle.ec_theory.specs.View.{term_trees, formula_tree, formula_trees};
 
-use crate::domains::{turn_count, value_in_turn};
-use crate::places::{env_of, keeps_under};
 use crate::scratch::Scratch;
 use crate::structure::Structure;
-use crate::truth::{number_at, truth_at};
+use crate::truth::truth_at;
 use ec_atom::Atoms;
 use ec_theory::{Formula, Signature, Term};
+use ec_values::{env_of, keeps_under, number_at, turn_count, value_in_turn};
 
 fn set_mark(marks: &mut [bool], atom: u64)
     requires { atom < length marks.old }
@@ -129,7 +128,7 @@ fn mark_each(
 }
 
 #[cycle(marking)]
-#[tactic(auto, using(crate::proofs::StackLemmas::drop_pushed, crate::proofs::StackLemmas::drop_popped))]
+#[tactic(auto, using(ec_values::proofs::StackLemmas::drop_pushed, ec_values::proofs::StackLemmas::drop_popped))]
 fn mark_under(
     signature: &Signature,
     atoms: &Atoms,

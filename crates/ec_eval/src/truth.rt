@@ -5,7 +5,7 @@ ghost use Rattle.ec_logic.specs.Universe.{extent_at, universe_of};
 ghost use Rattle.ec_logic.specs.Value.{values};
 ghost use Rattle.ec_logic.specs.Place.{kept_values};
 ghost use Rattle.ec_logic.specs.Truth.{truth, all_true, any_true};
-ghost use Rattle.ec_logic.specs.Atom.{number_of, structure_of};
+ghost use Rattle.ec_logic.specs.Atom.{structure_of};
 ghost use Rattle.ec_logic.specs.Turns.{turns, at_turn};
 ghost use Rattle.ec_logic.specs.InTurn.{truth_or, truth_in_turn};
 ghost use Rattle.ec_logic.specs.Countable.{IsCountable};
@@ -14,14 +14,11 @@ ghost use Rattle.ec_logic.specs.Reading.{AreReadableTerms, IsReadable, AreReadab
 ghost use Rattle.ec_logic.specs.ValidTheory.{IsSentence};
 ghost use Rattle.ec_theory.specs.View.{term_trees, formula_tree, formula_trees};
 
-use crate::domains::{turn_count, value_in_turn};
-use crate::places::{env_of, keeps_under};
 use crate::scratch::Scratch;
 use crate::structure::Structure;
-use crate::symbol::Symbol;
-use crate::terms::{tuple_place, value_of};
 use ec_atom::Atoms;
 use ec_theory::{Formula, Signature, Term};
+use ec_values::{env_of, keeps_under, number_at, turn_count, value_in_turn, value_of};
 
 fn truth_of(truths: &[bool], atom: u64) -> bool
     ensures { result ≡ unwrap_or (slice_get truths.now atom) false }
@@ -29,27 +26,6 @@ fn truth_of(truths: &[bool], atom: u64) -> bool
     match truths.get(atom as usize) {
         Some(truth) => *truth,
         None => false,
-    }
-}
-
-/// The number of an atom whose arguments have these values, if each is in its domain.
-pub(crate) fn number_at(
-    signature: &Signature,
-    atoms: &Atoms,
-    env: &[i64],
-    predicate: u32,
-    args: &[Term],
-) -> Option<u64>
-    requires of { atoms.now ≡ signature.now }
-    requires countable { IsCountable (universe_of signature.now) }
-    requires known { predicate < length signature.now.predicates }
-    requires readable { AreReadableTerms signature.now env.now (term_trees args.now) }
-    ensures { result ≡ number_of (universe_of signature.now) predicate (values (universe_of signature.now) env.now (term_trees args.now)) }
-{
-    let first = atoms.first_of(predicate);
-    match tuple_place(signature, Symbol::Predicate(predicate), env, args) {
-        Some(place) => Some(first + place),
-        None => None,
     }
 }
 
@@ -175,7 +151,7 @@ fn any_holds(
 }
 
 #[cycle(truth)]
-#[tactic(auto, using(crate::proofs::StackLemmas::drop_pushed, crate::proofs::StackLemmas::drop_popped))]
+#[tactic(auto, using(ec_values::proofs::StackLemmas::drop_pushed, ec_values::proofs::StackLemmas::drop_popped))]
 fn truth_under(
     signature: &Signature,
     atoms: &Atoms,

@@ -6,7 +6,7 @@ use Rattle.ec_logic.specs.Marks.{Joins, is_tuple}
 use Rattle.ec_logic.proofs.Extents.{arguments_length}
 use Rattle.ec_logic.proofs.MarkedBits.{joins_set, joins_outside_domains}
 use Rattle.ec_theory.specs.View.{term_trees}
-use Rattle.ec_eval.proofs.AtomLemmas.{number_below}
+use Rattle.ec_values.proofs.AtomLemmas.{number_below}
 use Rattle.ec_eval.proofs.marking.mark_atom.Goals as goal
 
 pub set_mark-requires : goal.set_mark-requires

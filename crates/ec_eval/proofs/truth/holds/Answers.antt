@@ -5,7 +5,7 @@ use Rattle.ec_logic.specs.Atom.{visible_atoms}
 use Rattle.ec_logic.proofs.Counted.{countable_by_visible}
 use Rattle.ec_logic.proofs.Readable.{sentence_readable}
 use Rattle.ec_theory.specs.View.{formula_tree}
-use Rattle.ec_eval.proofs.StackLemmas.{drop_all}
+use Rattle.ec_values.proofs.StackLemmas.{drop_all}
 use Rattle.ec_eval.proofs.truth.holds.Goals as goal
 
 pub truth_at-requires-clause-countable : goal.truth_at-requires-clause-countable
