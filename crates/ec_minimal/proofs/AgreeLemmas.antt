@@ -14,7 +14,7 @@ use Rattle.ec_logic.proofs.Minimality.{all_head, all_tail}
 use Rattle.ec_logic.proofs.Numbering.{tuple_rank-tuple_at}
 use Rattle.ec_logic.proofs.Tests.{or_cases, or_left, or_right, same_itself, same_number, test_cases}
 use Rattle.ec_logic.proofs.Tuples.{tuple_rank_below}
-use Rattle.ec_eval.proofs.AtomLemmas.{number_below}
+use Rattle.ec_values.proofs.AtomLemmas.{number_below}
 use Rattle.ec_minimal.specs.Agrees.{Agrees, same_truth}
 
 same_truth_is : (x y : Option Bool) → same_truth x y ≡ true → unwrap_or x false ≡ unwrap_or y false

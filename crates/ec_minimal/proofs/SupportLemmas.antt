@@ -25,7 +25,7 @@ use Rattle.ec_logic.proofs.Minimality.{all_head, all_tail}
 use Rattle.ec_theory.specs.declared.theory.Sentence.{Sentence}
 use Rattle.ec_theory.specs.Theories.{sentence_trees}
 use Rattle.ec_theory.specs.View.{formula_tree}
-use Rattle.ec_minimal.proofs.SupportedTuples.{supported_tuple}
+use Rattle.ec_supported.proofs.SupportedTuples.{supported_tuple}
 
 -- the next of some sentences is valid
 pub next_valid : (signature : Signature) (sentences : List Sentence) (i : ℕ) (sentence : Sentence) → AreValidSentences signature (sentence_trees sentences) → i < length sentences → sentence ≡ get_or sentences i sentence → IsValidSentence signature (formula_tree sentence.formula)

@@ -21,9 +21,9 @@ use Rattle.ec_logic.proofs.FewAtoms.{event_extent, fluent_extent}
 use Rattle.ec_logic.proofs.Numbering.{rank-value_at}
 use Rattle.ec_logic.proofs.Tuples.{tuple_rank_below}
 use Rattle.ec_logic.proofs.Tests.{and_parts, same_number, same_values_same, or_cases, test_cases}
-use Rattle.ec_minimal.proofs.KeptPlaces.{AllKeep, keep_parts, keep_under, Below, below_nearer, place_holds}
-use Rattle.ec_minimal.proofs.SubsortValues.{member_is, plain_sort_extent, constant_known, value_up}
-use Rattle.ec_minimal.proofs.GroundCounts.{same_count}
+use Rattle.ec_supported.proofs.KeptPlaces.{AllKeep, keep_parts, keep_under, Below, below_nearer, place_holds}
+use Rattle.ec_supported.proofs.SubsortValues.{member_is, plain_sort_extent, constant_known, value_up}
+use Rattle.ec_supported.proofs.GroundCounts.{same_count}
 
 -- ---- values in range
 

@@ -10,7 +10,7 @@ use Rattle.ec_logic.specs.Turns.{IsValueOf}
 use Rattle.ec_logic.specs.Valid.{IsSignature, range_of, row_passes, is_plain_sort, is_integer_sort, kind_is_plain, kind_is_integer, kind_is_event, kind_is_fluent}
 use Rattle.ec_logic.proofs.Extents.{extent_of_sort}
 use Rattle.ec_logic.proofs.Tests.{and_parts, same_number, or_cases, or_left, or_right, test_cases}
-use Rattle.ec_minimal.proofs.Ancestors.{goes_on, within_within}
+use Rattle.ec_supported.proofs.Ancestors.{goes_on, within_within}
 
 known_some : {A : Type 0} (xs : List A) (k : ℕ) → k < length xs → slice_get xs k ≡ None → ⊥
 known_some [] k l e = omega (arith, l)

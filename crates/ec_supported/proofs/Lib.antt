@@ -1,0 +1,6 @@
+mod Ancestors
+mod KeptPlaces
+mod SubsortValues
+mod GroundCounts
+pub mod SupportedTuples
+pub mod GroupTuples
