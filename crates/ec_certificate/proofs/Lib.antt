@@ -1,0 +1,10 @@
+pub mod Forbidding
+pub mod Holding
+pub mod Appending
+pub mod UnderWay
+pub mod Reordered
+pub mod Logged
+mod Codes
+pub mod FewDerived
+pub mod Counting
+mod Examples
