@@ -1,0 +1,5 @@
+mod NamedTrees
+mod AtomsRead
+mod Extensions
+mod Once
+pub mod ListOf
