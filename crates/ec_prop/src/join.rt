@@ -60,6 +60,13 @@ impl Joining {
         }
     }
 
+    /// Whether the parts given so far decide the tree: it is the same, whatever parts follow.
+    pub fn is_decided(&self) -> bool
+        ensures { IsTrue result → (rest : List Tree) → joined_with self.now rest ≡ joined_with self.now [] }
+    {
+        self.decided
+    }
+
     /// The tree that the parts come to.
     pub fn finish(self) -> Prop
         ensures { tree_of result ≡ joined_with self [] }
