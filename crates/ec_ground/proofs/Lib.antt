@@ -1,0 +1,9 @@
+mod Groups
+mod Readings
+mod Lists
+mod Grounds
+mod Nesting
+mod Places
+mod Items
+mod Parts
+mod Gathered
