@@ -1,0 +1,6 @@
+mod Rising
+mod Stages
+mod Rows
+mod Lists
+mod Finding
+pub mod FoundLaws
