@@ -13,7 +13,7 @@ use Rattle.ec_accept.specs.Accepted.{IsAccepted, said, unread, unsaid, IsMeasure
 use Rattle.ec_accept.specs.Answers.{Answers}
 use Rattle.ec_accept.specs.Steps.{Gives, Measures, Numbers, Sorts, Weighs}
 use Rattle.ec_weight.specs.Weight.{weight_of}
-use Rattle.ec_accept.specs.declared.accepting.Accepted.{Accepted}
+use Rattle.ec_accept.specs.declared.accepting.NumberedTheory.{NumberedTheory}
 use Rattle.ec_accept.specs.declared.fault.AcceptFault.{AcceptFault}
 use Rattle.ec_accept.specs.declared.fault.AcceptFault.TheVariants as fault
 
@@ -43,14 +43,15 @@ module _ (held : List ℕ → Option (List ℕ)) (root : List ℕ) where
   accepts_unsaid book b fault.Files h = tt
   accepts_unsaid book b fault.Memory h = tt
 
-  pub accepts_said : (book : w.Book) (theory : Theory) → IsBook held root (Ok book) → IsSaid book (Ok (theory_of theory)) → (result : Result Accepted AcceptFault) → Measures root theory result
-      → Answers (IsAccepted held root) result
-  accepts_said book theory b s (Ok found) n =
+  pub accepts_unmeasured : (book : w.Book) (theory : Theory) → IsBook held root (Ok book) → IsSaid book (Ok (theory_of theory)) → (e : AcceptFault) → Measures root theory (Err e) → Answers (IsAccepted held root) (Err e)
+  accepts_unmeasured book theory b s (fault.Refused refusal) n = said book (theory_of theory) b s n
+  accepts_unmeasured book theory b s fault.Files n = tt
+  accepts_unmeasured book theory b s fault.Memory n = tt
+
+  pub accepts_measured : (book : w.Book) (theory : Theory) → IsBook held root (Ok book) → IsSaid book (Ok (theory_of theory)) → (found : NumberedTheory) → Measures root theory (Ok found) → IsAccepted held root (Ok (theory_of found.theory))
+  accepts_measured book theory b s found n =
       let P : Theory → Type 0 = λ t. IsAccepted held root (Ok (theory_of t)) in
       subst P (sym n.0) (said book (theory_of theory) b s n.2)
-  accepts_said book theory b s (Err (fault.Refused refusal)) n = said book (theory_of theory) b s n
-  accepts_said book theory b s (Err fault.Files) n = tt
-  accepts_said book theory b s (Err fault.Memory) n = tt
 
 -- ---- how large a theory is
 
@@ -59,19 +60,17 @@ measured_size (many_atoms l) = tt
 measured_size (heavy l w) = tt
 measured_size (fits l w) = (l, w)
 
-pub few_visible : (root : List ℕ) (theory : Theory) (result : Result Accepted AcceptFault) → Measures root theory result → IfOk result (λ (found : Accepted). visible_count (theory_of found.theory) ≤ 262144)
-few_visible root theory (Ok found) n = subst (λ (t : Theory). visible_count (theory_of t) ≤ 262144) (sym n.0) (measured_size n.2).0
-few_visible root theory (Err e) n = tt
+pub few_visible : (root : List ℕ) (theory : Theory) (found : NumberedTheory) → Measures root theory (Ok found) → visible_count (theory_of found.theory) ≤ 262144
+few_visible root theory found n = subst (λ (t : Theory). visible_count (theory_of t) ≤ 262144) (sym n.0) (measured_size n.2).0
 
-pub is_light : (root : List ℕ) (theory : Theory) (result : Result Accepted AcceptFault) → Measures root theory result → IfOk result (λ (found : Accepted). weight_of (theory_of found.theory) ≤ 4000000)
-is_light root theory (Ok found) n = subst (λ (t : Theory). weight_of (theory_of t) ≤ 4000000) (sym n.0) (measured_size n.2).1
-is_light root theory (Err e) n = tt
+pub is_light : (root : List ℕ) (theory : Theory) (found : NumberedTheory) → Measures root theory (Ok found) → weight_of (theory_of found.theory) ≤ 4000000
+is_light root theory found n = subst (λ (t : Theory). weight_of (theory_of t) ≤ 4000000) (sym n.0) (measured_size n.2).1
 
 -- a theory that is numbered and then weighed is measured
-pub measures_weighed : (root : List ℕ) (theory : Theory) (before : Accepted) → Numbers root theory (Ok before) → (result : Result Accepted AcceptFault) → Weighs root before result → Measures root theory result
+pub measures_weighed : (root : List ℕ) (theory : Theory) (before : NumberedTheory) → Numbers root theory (Ok before) → (result : Result NumberedTheory AcceptFault) → Weighs root before result → Measures root theory result
 measures_weighed root theory before n (Ok found) w =
     let P : Theory → Type 0 = λ t. weight_of (theory_of t) ≤ 4000000 in
-    (ap (λ (a : Accepted). a.theory) w.0 ∙ n.0, ap (λ (a : Accepted). a.atoms) w.0 ∙ n.1, fits n.2 (subst P n.0 w.1))
+    (ap (λ (m : NumberedTheory). m.theory) w.0 ∙ n.0, ap (λ (m : NumberedTheory). m.atoms) w.0 ∙ n.1, fits n.2 (subst P n.0 w.1))
 measures_weighed root theory before n (Err (fault.Refused refusal)) w =
     let P : Theory → Type 0 = λ t. 4000000 < weight_of (theory_of t) in
     let Q : Refusal → Type 0 = λ r. IsMeasured root (theory_of theory) (Err r) in

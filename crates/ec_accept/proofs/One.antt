@@ -1,4 +1,4 @@
--- A root has one answer at most: a book is split by its labels, its places and its trees alone.
+-- A root has one answer and one list of files at most: a book is split by its labels, its places and its trees alone.
 use Rattle.std.proofs.Common.{◌≡◌, ℕ, suc, Bool, true, false, List, [], ◌∷◌, map, filter, Option, None, Some, option_map, Result, Ok, Err, refl, ap, sym, ◌∙◌, subst, arith}
 use Rattle.std.specs.Option.{option_and_then, option_or}
 use Rattle.ec_declare.specs.Signatures.{signature_of}
@@ -22,7 +22,7 @@ use Rattle.ec_theory.specs.declared.sorted.Wanted.{Wanted}
 use Rattle.ec_theory.specs.declared.theory.Group.{Group}
 use Rattle.ec_theory.specs.declared.theory.Theory.{Theory}
 use Rattle.ec_theory.specs.Theories.{group_of, sentence_trees, theory_of}
-use Rattle.ec_accept.specs.Accepted.{IsAccepted, said, unread, unsaid, IsMeasured, fits, heavy, many_atoms, IsSaid, sorted, unsorted, IsSplitInto, split, unsplit, visible_count}
+use Rattle.ec_accept.specs.Accepted.{HasFiles, IsAccepted, said, unread, unsaid, IsMeasured, fits, heavy, many_atoms, IsSaid, sorted, unsorted, IsSplitInto, split, unsplit, visible_count}
 use Rattle.ec_weight.specs.Weight.{weight_of}
 
 -- ---- sentences as labelled trees
@@ -163,6 +163,9 @@ said_one same d e = sym (said_is d) ∙ (ap said_in same ∙ said_is e)
 module _ (held : List ℕ → Option (List ℕ)) (root : List ℕ) where
   same_book : {b c : w.Book} → IsBook held root (Ok b) → IsBook held root (Ok c) → b ≡ c
   same_book d e = let same = loads_one d e in cc
+
+  pub files_one : {files others : List (List ℕ)} → HasFiles held root files → HasFiles held root others → files ≡ others
+  files_one d e = sym d.are ∙ (ap (λ (b : w.Book). b.files) (same_book d.is e.is) ∙ e.are)
 
   measured_one : {t u : logic.Theory} {x y : Result logic.Theory Refusal} → t ≡ u → IsMeasured root t x → IsMeasured root u y → x ≡ y
   measured_one same (many_atoms l) (many_atoms m) = refl

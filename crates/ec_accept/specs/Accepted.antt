@@ -40,3 +40,9 @@ pub data IsAccepted (held : List ℕ → Option (List ℕ)) (root : List ℕ) : 
   unread : {refusal : Refusal} → IsBook held root (Err refusal) → IsAccepted held root (Err refusal)
   unsaid : {refusal : Refusal} (book : Book) → IsBook held root (Ok book) → IsSaid book (Err refusal) → IsAccepted held root (Err refusal)
   said : {answer : Result Theory Refusal} (book : Book) (theory : Theory) → IsBook held root (Ok book) → IsSaid book (Ok theory) → IsMeasured root theory answer → IsAccepted held root answer
+
+-- The files of a root's book are these, in the order in which they are read.
+pub record HasFiles (held : List ℕ → Option (List ℕ)) (root : List ℕ) (files : List (List ℕ)) : Type 0 where
+  pub book : Book
+  pub is : IsBook held root (Ok book)
+  pub are : book.files ≡ files

@@ -9,7 +9,7 @@ use Rattle.ec_theory.specs.declared.sorted.Sorted.{Sorted}
 use Rattle.ec_theory.specs.declared.theory.Theory.{Theory}
 use Rattle.ec_accept.specs.Accepted.{visible_count, IsMeasured}
 use Rattle.ec_weight.specs.Weight.{weight_of}
-use Rattle.ec_accept.specs.declared.accepting.Accepted.{Accepted}
+use Rattle.ec_accept.specs.declared.accepting.NumberedTheory.{NumberedTheory}
 use Rattle.ec_accept.specs.declared.fault.AcceptFault.{AcceptFault}
 use Rattle.ec_accept.specs.declared.fault.AcceptFault.TheVariants as fault
 
@@ -38,22 +38,22 @@ Sorts book (Err fault.Files) = Unit {0}
 Sorts book (Err fault.Memory) = Unit {0}
 
 -- A theory has its atoms' numbers, or too many visible atoms.
-abbrev pub Numbers : List ℕ → Theory → Result Accepted AcceptFault → Type 0
-Numbers root theory (Ok accepted) = (accepted.theory ≡ theory) × (accepted.atoms ≡ theory.signature) × (visible_count (theory_of theory) ≤ 262144)
+abbrev pub Numbers : List ℕ → Theory → Result NumberedTheory AcceptFault → Type 0
+Numbers root theory (Ok numbered) = (numbered.theory ≡ theory) × (numbered.atoms ≡ theory.signature) × (visible_count (theory_of theory) ≤ 262144)
 Numbers root theory (Err (fault.Refused refusal)) = (refusal ≡ refused 20 (in_file root 0) (codes "atoms")) × (262144 < visible_count (theory_of theory))
 Numbers root theory (Err fault.Files) = Unit {0}
 Numbers root theory (Err fault.Memory) = Unit {0}
 
 -- A theory that isn't too heavy stays as it is.
-abbrev pub Weighs : List ℕ → Accepted → Result Accepted AcceptFault → Type 0
-Weighs root before (Ok accepted) = (accepted ≡ before) × (weight_of (theory_of before.theory) ≤ 4000000)
+abbrev pub Weighs : List ℕ → NumberedTheory → Result NumberedTheory AcceptFault → Type 0
+Weighs root before (Ok weighed) = (weighed ≡ before) × (weight_of (theory_of before.theory) ≤ 4000000)
 Weighs root before (Err (fault.Refused refusal)) = (refusal ≡ refused 19 (in_file root 0) (codes "weight")) × (4000000 < weight_of (theory_of before.theory))
 Weighs root before (Err fault.Files) = Unit {0}
 Weighs root before (Err fault.Memory) = Unit {0}
 
 -- A theory that isn't too large has its atoms' numbers; any other is refused.
-abbrev pub Measures : List ℕ → Theory → Result Accepted AcceptFault → Type 0
-Measures root theory (Ok accepted) = (accepted.theory ≡ theory) × (accepted.atoms ≡ theory.signature) × IsMeasured root (theory_of theory) (Ok (theory_of theory))
+abbrev pub Measures : List ℕ → Theory → Result NumberedTheory AcceptFault → Type 0
+Measures root theory (Ok measured) = (measured.theory ≡ theory) × (measured.atoms ≡ theory.signature) × IsMeasured root (theory_of theory) (Ok (theory_of theory))
 Measures root theory (Err (fault.Refused refusal)) = IsMeasured root (theory_of theory) (Err refusal)
 Measures root theory (Err fault.Files) = Unit {0}
 Measures root theory (Err fault.Memory) = Unit {0}

@@ -1,5 +1,5 @@
 //! From a root file to its theory.
-ghost use Rattle.std.specs.Prelude.{◌≡◌, ◌≤◌, ℕ, List, Option, Result, IsTrue, IfOk, Err};
+ghost use Rattle.std.specs.Prelude.{◌≡◌, ◌≤◌, ℕ, List, length, Option, Result, IsTrue, IfOk, Err};
 ghost use Rattle.ec_edge.specs.Causes.{Rose};
 ghost use Rattle.ec_edge.specs.Pieces.{AllStay};
 ghost use Rattle.ec_load.specs.Book.{IsBook};
@@ -11,13 +11,14 @@ ghost use Rattle.ec_syntax.specs.declared.book.Refusal.{Refusal};
 ghost use Rattle.ec_syntax.specs.View.{book_of};
 ghost use Rattle.ec_theory.specs.Theories.{theory_of};
 ghost use Rattle.ec_weight.specs.Weight.{weight_of};
-ghost use Rattle.ec_accept.specs.Accepted.{IsAccepted, IsSaid, IsSplitInto, visible_count};
+ghost use Rattle.ec_accept.specs.Accepted.{HasFiles, IsAccepted, IsSaid, IsSplitInto, visible_count};
 ghost use Rattle.ec_accept.specs.Answers.{Answers};
 ghost use Rattle.ec_accept.specs.Steps.{FailsByText, Gives, Measures, Numbers, Sorts, Weighs};
 
 use crate::fault::{AcceptFault, too_heavy, too_many};
 use ec_atom::{AtomFault, Atoms};
 use ec_edge::Files;
+use ec_lex::word::Word;
 use ec_load::{LoadFault, load};
 use ec_sort::{SortFault, check};
 use ec_split::{SplitFault, split};
@@ -29,13 +30,22 @@ use std::alloc::Global;
 /// The greatest weight of a theory, which bounds the work that it may make.
 const WEIGHT_LIMIT: u64 = 4_000_000;
 
-/// A theory with the numbers of its atoms.
+/// A theory with the numbers of its atoms and the files that say it.
 #[derive(Drop)]
 pub struct Accepted {
     /// The theory that the root file and its loads say.
     pub theory: Theory,
     /// The numbers of its atoms.
     pub atoms: Atoms,
+    /// The files that the root's book has, in the order in which they were read, the root first.
+    pub files: Vec<Word>,
+}
+
+/// A theory beside the numbers of its atoms.
+#[derive(Drop)]
+struct NumberedTheory {
+    theory: Theory,
+    atoms: Atoms,
 }
 
 /// The book of the root.
@@ -45,6 +55,7 @@ fn read<F: Files>(alloc: Global, files: &mut F, root: &str) -> Result<Book, Acce
     ensures failed { result ≡ Err AcceptFault.Files → Rose (F.faults files.old) (F.faults files.new) }
     ensures absent { (r : Refusal) → result ≡ Err (AcceptFault.Refused r) → r.code ≡ 1 → Rose (F.absences files.old) (F.absences files.new) }
     ensures stays { AllStay (F.held files.old) (F.held files.new) }
+    ensures starts { F.start_may_fail files.new → F.start_may_fail files.old }
     ensures tells { F.tells files.new ≡ F.tells files.old }
     ensures faults { F.faults files.old ≤ F.faults files.new }
     ensures absences { F.absences files.old ≤ F.absences files.new }
@@ -99,36 +110,40 @@ fn said(alloc: Global, book: &Book) -> Result<Theory, AcceptFault>
 }
 
 /// The theory beside the numbers of its atoms.
-fn numbered(alloc: Global, theory: Theory, root: &str) -> Result<Accepted, AcceptFault>
+fn numbered(alloc: Global, theory: Theory, root: &str) -> Result<NumberedTheory, AcceptFault>
     ensures numbers { Numbers root.now theory result }
     ensures text { FailsByText result }
 {
     match Atoms::number(alloc, &theory) {
-        Ok(atoms) => Ok(Accepted { theory, atoms }),
+        Ok(atoms) => Ok(NumberedTheory { theory, atoms }),
         Err(AtomFault::TooMany) => Err(too_many(alloc, root)),
         Err(AtomFault::Memory) => Err(AcceptFault::Memory),
     }
 }
 
 /// The theory, if it isn't too heavy.
-fn weighed(alloc: Global, accepted: Accepted, root: &str) -> Result<Accepted, AcceptFault>
-    ensures weighs { Weighs root.now accepted result }
+fn weighed(
+    alloc: Global,
+    numbered: NumberedTheory,
+    root: &str,
+) -> Result<NumberedTheory, AcceptFault>
+    ensures weighs { Weighs root.now numbered result }
     ensures text { FailsByText result }
 {
-    match weight_of(alloc, &accepted.theory) {
+    match weight_of(alloc, &numbered.theory) {
         Ok(weight) if weight > WEIGHT_LIMIT => Err(too_heavy(alloc, root)),
-        Ok(_) => Ok(accepted),
+        Ok(_) => Ok(numbered),
         Err(_) => Err(AcceptFault::Memory),
     }
 }
 
 /// The theory beside the numbers of its atoms, if it isn't too large.
-fn measured(alloc: Global, theory: Theory, root: &str) -> Result<Accepted, AcceptFault>
+fn measured(alloc: Global, theory: Theory, root: &str) -> Result<NumberedTheory, AcceptFault>
     ensures measures { Measures root.now theory result }
     ensures text { FailsByText result }
 {
     match numbered(alloc, theory, root) {
-        Ok(accepted) => weighed(alloc, accepted, root),
+        Ok(numbered) => weighed(alloc, numbered, root),
         Err(fault) => Err(fault),
     }
 }
@@ -145,19 +160,32 @@ pub fn accept<F: Files>(alloc: Global, files: &mut F, root: &str) -> Result<Acce
     ensures numbered { IfOk result (λ accepted. accepted.atoms ≡ accepted.theory.signature) }
     ensures few { IfOk result (λ accepted. visible_count (theory_of accepted.theory) ≤ 262144) }
     ensures light { IfOk result (λ accepted. weight_of (theory_of accepted.theory) ≤ 4000000) }
+    ensures files { IsTrue (F.tells files.old) → IfOk result (λ accepted. HasFiles (F.held files.old) root.now accepted.files.items) }
+    ensures few_files { IfOk result (λ accepted. length accepted.files.items ≤ 64) }
     ensures failed { result ≡ Err AcceptFault.Files → Rose (F.faults files.old) (F.faults files.new) }
     ensures absent { (r : Refusal) → result ≡ Err (AcceptFault.Refused r) → r.code ≡ 1 → Rose (F.absences files.old) (F.absences files.new) }
     ensures stays { AllStay (F.held files.old) (F.held files.new) }
+    ensures starts { F.start_may_fail files.new → F.start_may_fail files.old }
     ensures tells { F.tells files.new ≡ F.tells files.old }
     ensures faults { F.faults files.old ≤ F.faults files.new }
     ensures absences { F.absences files.old ≤ F.absences files.new }
 {
     let book = read(alloc, files, root)?;
     let theory = said(alloc, &book)?;
-    measured(alloc, theory, root)
+    let measured = measured(alloc, theory, root)?;
+    Ok(Accepted {
+        theory: measured.theory,
+        atoms: measured.atoms,
+        files: book.files,
+    })
 }
 
 /// A root has one theory at most, or one first refusal.
 pub fn one_answer()
     ensures { (held : List ℕ → Option (List ℕ)) (root : List ℕ) (a b : Result logic.Theory Refusal) → IsAccepted held root a → IsAccepted held root b → a ≡ b }
+{}
+
+/// A root has one list of files at most.
+pub fn one_list_of_files()
+    ensures { (held : List ℕ → Option (List ℕ)) (root : List ℕ) (files others : List (List ℕ)) → HasFiles held root files → HasFiles held root others → files ≡ others }
 {}

@@ -18,11 +18,11 @@ pub enum AcceptFault {
     Memory,
 }
 
-/// A refusal of the root as a whole.
-fn of_root(alloc: Global, code: u8, root: &str, name: &str) -> Result<Refusal, AllocError>
-    ensures { IfOk result (λ refusal. refusal ≡ refused code (in_file root.now 0) name.now) }
+/// A refusal of a whole file.
+pub fn of_file(alloc: Global, code: u8, file: &str, name: &str) -> Result<Refusal, AllocError>
+    ensures { IfOk result (λ refusal. refusal ≡ refused code (in_file file.now 0) name.now) }
 {
-    let file = Word::of(alloc, root.as_bytes())?;
+    let file = Word::of(alloc, file.as_bytes())?;
     let name = Word::of(alloc, name.as_bytes())?;
     Ok(Refusal {
         code,
@@ -36,7 +36,7 @@ fn of_root(alloc: Global, code: u8, root: &str, name: &str) -> Result<Refusal, A
 fn refuse(alloc: Global, code: u8, root: &str, name: &str) -> AcceptFault
     ensures { Refuses (refused code (in_file root.now 0) name.now) result }
 {
-    match of_root(alloc, code, root, name) {
+    match of_file(alloc, code, root, name) {
         Ok(refusal) => AcceptFault::Refused(refusal),
         Err(_) => AcceptFault::Memory,
     }
