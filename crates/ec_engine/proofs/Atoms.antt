@@ -1,5 +1,5 @@
 -- How many visible atoms there are, by a signature and by the theory that has it.
-use Rattle.std.proofs.Common.{◌≡◌, ℕ, ◌<◌, ◌≤◌, codes, List, length, Option, Ok, arith, ap}
+use Rattle.std.proofs.Common.{◌≡◌, ℕ, ◌<◌, ◌≤◌, codes, List, length, Option, Ok, arith, ap, ◌∙◌}
 use Rattle.ec_accept.specs.Accepted.{IsAccepted}
 use Rattle.ec_engine.specs.List.{IsRefused, many_atoms}
 use Rattle.ec_load.specs.Refusals.{refused, in_file}
@@ -10,6 +10,9 @@ use Rattle.ec_logic.specs.Universe.{universe_of}
 
 abbrev count_of : Signature → ℕ
 count_of signature = length (visible_atoms (universe_of signature))
+
+pub visible_is : (numbered signature : Signature) (count : ℕ) → numbered ≡ signature → count ≡ length (visible_atoms (universe_of numbered)) → count ≡ length (visible_atoms (universe_of signature))
+visible_is numbered signature count same is = is ∙ ap count_of same
 
 pub few_atoms : (numbered signature : Signature) (count : ℕ) → numbered ≡ signature → count ≡ length (visible_atoms (universe_of numbered)) → count ≤ 16 → length (visible_atoms (universe_of signature)) ≤ 16
 few_atoms numbered signature count same is few =

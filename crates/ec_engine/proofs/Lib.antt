@@ -1,3 +1,5 @@
 pub mod Parts
 pub mod Endings
 pub mod Atoms
+pub mod Words
+pub mod Searching

@@ -1,14 +1,24 @@
 //! The commands, over any files and any sink.
 //!
-//! [`list`] puts the narratives of a file, one for each minimal model of what it says, or the line of its
-//! refusal. What is due for what the files hold is said by specs/List.antt, over the theory or the refusal
-//! of `ec_accept` and the minimal models of `ec_logic`, apart from the code. The crate stands on `ec_accept`
-//! for the theory of a file, on `ec_models` for the truths of its minimal models, on `ec_narr` for the text
-//! of each, and on `ec_edge` for files and sinks.
+//! Each command puts the text that is due for what the files hold, or the line of its refusal. What is due is said apart from the code, over
+//! the theory or the refusal of `ec_accept` and the minimal models of `ec_logic`:
+//!
+//! - [`list`] puts the narratives of a file, one for each minimal model of what it says (specs/List.antt).
+//! - [`solve`] finds them by a search, up to bounds, and writes a log by which anybody can check what it found (specs/Solve.antt).
+//! - [`show`] puts how large the file's theory is (specs/Show.antt).
+//!
+//! The crate stands on `ec_accept` for the theory of a file, on `ec_models` and `ec_solve` for the truths of its minimal models, on `ec_narr`
+//! for the text of each, on `ec_log` for the log, on `ec_weight`, `ec_ground` and `ec_encode` for what `show` counts, and on `ec_edge` for
+//! files and sinks.
 #![tactic(auto)]
 
 mod listing;
 mod narratives;
 mod refusals;
+mod showing;
+mod solving;
 
+pub use ec_solve::Bounds;
 pub use listing::{ListEnd, list};
+pub use showing::{Counts, ShowEnd, show};
+pub use solving::{SolveEnd, solve};

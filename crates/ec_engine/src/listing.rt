@@ -1,19 +1,19 @@
 //! The command `list`.
-ghost use Rattle.std.specs.Prelude.{◌≡◌, ◌<◌, ◌^◌, ◌++◌, codes, length, List, ℕ, Option, Ok, IsTrue};
+ghost use Rattle.std.specs.Prelude.{◌≡◌, ◌<◌, ◌^◌, ◌++◌, length, List, ℕ, Option, Ok, IsTrue};
 ghost use Rattle.ec_edge.specs.Causes.{Rose};
 ghost use Rattle.ec_edge.specs.Pieces.{AllStay};
-ghost use Rattle.ec_load.specs.Refusals.{in_file, refused};
 ghost use Rattle.ec_logic.specs.Listing.{complete, list_text};
 ghost use Rattle.ec_logic.specs.ValidTheory.{IsValidTheory};
 ghost use Rattle.ec_theory.specs.Theories.{theory_of};
 ghost use Rattle.ec_accept.specs.Accepted.{IsAccepted};
-ghost use Rattle.ec_engine.specs.List.{IsAnswered, IsListed, IsRefused};
+ghost use Rattle.ec_engine.specs.List.{IsAnswered, IsListed};
 ghost use Rattle.ec_engine.specs.Refusals.{refusal_line};
-ghost use Rattle.ec_engine.specs.Answers.{answer_of};
+ghost use Rattle.ec_engine.specs.Answers.{end_of};
 
 use crate::narratives::put_list;
-use crate::refusals::{of_file, put_refusal};
+use crate::refusals::{refuse, refuse_file};
 use ec_accept::{AcceptFault, Accepted, accept};
+use ec_clause::ending::Ending;
 use ec_edge::{Files, Sink, SinkFault};
 use ec_models::models;
 use ec_row::Row;
@@ -38,42 +38,25 @@ pub enum ListEnd {
 /// A list has at most so many visible atoms, since each of their truths is tried.
 const MOST_ATOMS: u32 = 16;
 
-/// The answer that is due with a text, if the text was put, or why it wasn't.
-fn answered(put: Result<(), SinkFault>, answer: ListEnd) -> ListEnd
-    ensures { result ≡ answer_of put answer }
+/// How `list` ends with a refusal whose line was put, or wasn't.
+fn refused(put: Result<Refusal, SinkFault>) -> ListEnd
+    ensures { result ≡ end_of ListEnd.Refused ListEnd.Out ListEnd.Memory put }
 {
     match put {
-        Ok(()) => answer,
+        Ok(refusal) => ListEnd::Refused(refusal),
         Err(SinkFault::Failed) => ListEnd::Out,
         Err(SinkFault::Memory) => ListEnd::Memory,
     }
 }
 
-/// Puts the line of a refusal.
-fn refuse<O: Sink>(alloc: Global, out: &mut O, refusal: Refusal) -> ListEnd
-    ensures put { IsTrue (O.tells out.old) → (held : List ℕ → Option (List ℕ)) (file : List ℕ) → IsRefused held file refusal →
-        IsAnswered held file (O.bytes out.old) (O.bytes out.new) result }
-    ensures files { result ≡ ListEnd.Files → ⊥ }
-    ensures failed { result ≡ ListEnd.Out → Rose (O.faults out.old) (O.faults out.new) }
-    ensures refused { (r : Refusal) → result ≡ ListEnd.Refused r → r ≡ refusal }
-    ensures line { IsTrue (O.tells out.old) → (r : Refusal) → result ≡ ListEnd.Refused r → O.bytes out.new ≡ O.bytes out.old ++ refusal_line r }
+/// How `list` ends with a list of so many narratives that was put, or wasn't.
+fn listed(put: Result<(), SinkFault>, count: u64) -> ListEnd
+    ensures { result ≡ end_of (λ _. ListEnd.Complete count) ListEnd.Out ListEnd.Memory put }
 {
-    let put = put_refusal(alloc, out, &refusal);
-    answered(put, ListEnd::Refused(refusal))
-}
-
-/// Refuses a file that has too many visible atoms.
-fn refuse_atoms<O: Sink>(alloc: Global, out: &mut O, file: &str) -> ListEnd
-    ensures put { IsTrue (O.tells out.old) → (held : List ℕ → Option (List ℕ)) → IsRefused held file.now (refused 21 (in_file file.now 0) (codes "atoms")) →
-        IsAnswered held file.now (O.bytes out.old) (O.bytes out.new) result }
-    ensures files { result ≡ ListEnd.Files → ⊥ }
-    ensures failed { result ≡ ListEnd.Out → Rose (O.faults out.old) (O.faults out.new) }
-    ensures refused { (r : Refusal) → result ≡ ListEnd.Refused r → r.code ≡ 21 }
-    ensures line { IsTrue (O.tells out.old) → (r : Refusal) → result ≡ ListEnd.Refused r → O.bytes out.new ≡ O.bytes out.old ++ refusal_line r }
-{
-    match of_file(alloc, 21, file, "atoms") {
-        Ok(refusal) => refuse(alloc, out, refusal),
-        Err(_) => ListEnd::Memory,
+    match put {
+        Ok(()) => ListEnd::Complete(count),
+        Err(SinkFault::Failed) => ListEnd::Out,
+        Err(SinkFault::Memory) => ListEnd::Memory,
     }
 }
 
@@ -88,8 +71,9 @@ fn list_truths<O: Sink>(alloc: Global, out: &mut O, accepted: &Accepted, truths:
     ensures failed { result ≡ ListEnd.Out → Rose (O.faults out.old) (O.faults out.new) }
     ensures refused { (r : Refusal) → result ≡ ListEnd.Refused r → ⊥ }
 {
-    let put = put_list(alloc, out, accepted, truths);
-    answered(put, ListEnd::Complete(truths.len() as u64))
+    let count = truths.len() as u64;
+    let put = put_list(alloc, out, accepted, truths, Ending::Complete(count));
+    listed(put, count)
 }
 
 /// Lists the narratives of a theory, unless it has too many visible atoms.
@@ -104,7 +88,7 @@ fn list_accepted<O: Sink>(alloc: Global, file: &str, accepted: &Accepted, out: &
     ensures line { IsTrue (O.tells out.old) → (r : Refusal) → result ≡ ListEnd.Refused r → O.bytes out.new ≡ O.bytes out.old ++ refusal_line r }
 {
     if accepted.atoms.visible() > MOST_ATOMS {
-        return refuse_atoms(alloc, out, file);
+        return refused(refuse_file(alloc, out, 21, file, "atoms"));
     }
     match models(alloc, &accepted.theory, &accepted.atoms) {
         Ok(truths) => list_truths(alloc, out, accepted, &truths),
@@ -128,7 +112,7 @@ pub fn list<F: Files, O: Sink>(alloc: Global, files: &mut F, file: &str, out: &m
 {
     match accept(alloc, files, file) {
         Ok(accepted) => list_accepted(alloc, file, &accepted, out),
-        Err(AcceptFault::Refused(refusal)) => refuse(alloc, out, refusal),
+        Err(AcceptFault::Refused(refusal)) => refused(refuse(alloc, out, refusal)),
         Err(AcceptFault::Files) => ListEnd::Files,
         Err(AcceptFault::Memory) => ListEnd::Memory,
     }

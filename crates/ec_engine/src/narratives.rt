@@ -2,12 +2,15 @@
 ghost use Rattle.std.specs.Prelude.{◌≡◌, ◌≤◌, ◌<◌, ◌^◌, ◌++◌, length, IfOk, IsErrOf, IsTrue, OnErr, OnOk};
 ghost use Rattle.ec_edge.specs.Causes.{Rose};
 ghost use Rattle.ec_edge.specs.Pieces.{AppendsPrefix};
-ghost use Rattle.ec_logic.specs.Listing.{complete, ending_text, list_text, narratives_from};
+ghost use Rattle.ec_logic.specs.Listing.{ending_text, list_text, narratives_from};
 ghost use Rattle.ec_logic.specs.Narrative.{line};
 ghost use Rattle.ec_engine.specs.Narratives.{narrative_of};
+ghost use Rattle.ec_engine.specs.Solve.{list_ending};
 
 use ec_accept::Accepted;
-use ec_edge::{Sink, SinkFault, push_number, put_text};
+use ec_clause::ending::Ending;
+use ec_edge::{Sink, SinkFault, put_text};
+use ec_log::push_ending;
 use ec_narr::narrative;
 use ec_row::Row;
 use std::alloc::{AllocError, Global};
@@ -54,31 +57,32 @@ fn put_narratives<O: Sink>(
     Ok(())
 }
 
-/// The last line of a list of all narratives.
-fn ending(alloc: Global, count: u64) -> Result<Vec<u8>, AllocError>
-    ensures { IfOk result (λ text. text.items ≡ line (ending_text (complete count))) }
+/// The last line of a list that ends so.
+fn last_line(alloc: Global, ending: Ending) -> Result<Vec<u8>, AllocError>
+    ensures { IfOk result (λ text. text.items ≡ line (ending_text (list_ending ending))) }
 {
-    let mut out = Vec::from_slice(alloc, b"complete: ")?;
-    push_number(&mut out, count)?;
+    let mut out = Vec::new(alloc);
+    push_ending(&mut out, &ending)?;
     out.push(b'\n')?;
     Ok(out)
 }
 
-/// Puts the list of truths: their narratives, numbered from 1, and the last line, which says that they are
-/// all. After a fault the sink has gained a prefix of that text. One narrative is held at a time.
+/// Puts a list of truths: their narratives, numbered from 1, and the last line, which says how the list ends. After a fault the sink has
+/// gained a prefix of that text. One narrative is held at a time.
 pub fn put_list<O: Sink>(
     alloc: Global,
     out: &mut O,
     accepted: &Accepted,
     truths: &[Row],
+    ending: Ending,
 ) -> Result<(), SinkFault>
     requires numbered { accepted.now.atoms ≡ accepted.now.theory.signature }
     requires few { length truths.now < 2 ^ 32 }
-    ensures ok { IsTrue (O.tells out.old) → OnOk result (O.bytes out.new ≡ O.bytes out.old ++ list_text accepted.now.theory.signature truths.now (complete (length truths.now))) }
-    ensures part { IsTrue (O.tells out.old) → OnErr result (AppendsPrefix (list_text accepted.now.theory.signature truths.now (complete (length truths.now))) (O.bytes out.old) (O.bytes out.new)) }
+    ensures ok { IsTrue (O.tells out.old) → OnOk result (O.bytes out.new ≡ O.bytes out.old ++ list_text accepted.now.theory.signature truths.now (list_ending ending)) }
+    ensures part { IsTrue (O.tells out.old) → OnErr result (AppendsPrefix (list_text accepted.now.theory.signature truths.now (list_ending ending)) (O.bytes out.old) (O.bytes out.new)) }
     ensures failed { IsErrOf result SinkFault.Failed → Rose (O.faults out.old) (O.faults out.new) }
 {
     put_narratives(alloc, out, accepted, truths)?;
-    let ending = ending(alloc, truths.len() as u64)?;
-    put_text(out, &ending)
+    let last = last_line(alloc, ending)?;
+    put_text(out, &last)
 }

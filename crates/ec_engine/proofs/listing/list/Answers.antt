@@ -1,6 +1,10 @@
+use Rattle.std.proofs.Common.{refl}
+use Rattle.ec_engine.specs.declared.listing.ListEnd.TheVariants as end
 use Rattle.ec_engine.specs.List.{unaccepted}
+use Rattle.ec_engine.proofs.Endings.{list_ends}
 use Rattle.ec_engine.proofs.listing.list.Goals as goal
 
 pub returns-in-Err-Refused-clause-put : goal.returns-in-Err-Refused-clause-put
 returns-in-Err-Refused-clause-put g c = λ told shown.
-    c.refuse.ensures.put shown (g.F.Files.held c.args.files.now) c.args.file.now (unaccepted (rw c.in-Err-Refused.field-0-is at c.in-Err-Refused.ensures.accepted told))
+    rw c.refused.ensures (list_ends (g.F.Files.held c.args.files.now) c.args.file.now _ _ _ end.Refused c.in-Err-Refused.refusal c.refuse.result
+    (unaccepted (rw c.in-Err-Refused.field-0-is at c.in-Err-Refused.ensures.accepted told), refl) c.refuse.ensures.same (c.refuse.ensures.ok shown) (c.refuse.ensures.part shown))

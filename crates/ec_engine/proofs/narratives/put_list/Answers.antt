@@ -12,4 +12,4 @@ pub returns-clause-part : goal.returns-clause-part
 returns-clause-part g c = λ told.
     let now : IsTrue (g.O.Sink.tells c.put_narratives.new.out) = rw c.in_ok-put_narratives.ensures.tells told in
     rest_part c.put_text.result _ _ _ _ _ (c.in_ok-put_narratives.ensures.ok told)
-    (rw (c.deref.ensures.value, c.in_ok-ending.ensures) at c.put_text.ensures.part now)
+    (rw (c.deref.ensures.value, c.in_ok-last.ensures) at c.put_text.ensures.part now)
