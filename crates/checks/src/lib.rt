@@ -1,4 +1,4 @@
-//! The top call over files and sinks in memory, row by row. It holds tests alone.
+//! The top call over files and sinks in memory, row by row. It holds tests, and the words that they and other tests give.
 #![tactic(auto)]
 
 #[cfg(test)]
@@ -17,5 +17,4 @@ mod pieces;
 mod refusals;
 #[cfg(test)]
 mod rows;
-#[cfg(test)]
-mod words;
+pub mod words;

@@ -132,10 +132,21 @@ fn precedence(rt: HostRuntime) -> Result<(), Fail> {
 #[test]
 fn usage_and_absence(rt: HostRuntime) -> Result<(), Fail> {
     let alloc = rt.alloc();
-    let rows: [(&str, &str, Status); 6] = [
+    let rows: [(&str, &str, Status); 13] = [
         ("", "usage\n", Status::Usage),
         ("sample 41", "usage\n", Status::Usage),
         ("solve a.e", "usage\n", Status::Usage),
+        ("solve a.e l --models", "usage\n", Status::Usage),
+        ("solve a.e l --models 0", "usage\n", Status::Usage),
+        ("solve a.e l --models 01", "usage\n", Status::Usage),
+        ("solve a.e l --models 10001", "usage\n", Status::Usage),
+        (
+            "solve a.e l --models 2 --models 2",
+            "usage\n",
+            Status::Usage,
+        ),
+        ("solve --models 2 a.e", "usage\n", Status::Usage),
+        ("show t.e u.e", "usage\n", Status::Usage),
         ("list", "usage\n", Status::Usage),
         ("list t.e u.e", "usage\n", Status::Usage),
         ("list t.e", "refused E01 t.e:0: t.e\n", Status::Refused),

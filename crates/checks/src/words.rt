@@ -2,6 +2,7 @@
 use std::alloc::Global;
 use std::test::Fail;
 
+/// The words of a line, parted by blanks.
 pub fn words(alloc: Global, line: &str) -> Result<Vec<String>, Fail> {
     let mut words = Vec::new(alloc);
     for word in line.split_whitespace() {

@@ -1,48 +1,226 @@
--- What a list put is what the run puts.
-use Rattle.std.proofs.Common.{◌≡◌, ◌⊎◌, inl, inr, ℕ, List, ◌++◌, Option, Some, None, codes}
+-- What a command put and wrote is what the run puts and writes.
+use Rattle.std.proofs.Common.{◌≡◌, ◌⊎◌, inl, inr, ℕ, List, ◌++◌, Option, Some, None, codes, refl, ap, sym, subst, ◌∙◌}
+use Rattle.ec_clause.specs.declared.ending.Ending.TheVariants.{Complete, Models, Conflicts}
+use Rattle.ec_logic.specs.Theory.{Theory}
 use Rattle.ec_edge.specs.Pieces.{AppendsPrefix}
 use Rattle.ec_syntax.specs.declared.book.Refusal.{Refusal}
+use Rattle.ec_solve.specs.declared.searching.Bounds.{Bounds}
 use Rattle.ec_engine.specs.declared.listing.ListEnd.{ListEnd}
-use Rattle.ec_engine.specs.declared.listing.ListEnd.TheVariants as end
+use Rattle.ec_engine.specs.declared.listing.ListEnd.TheVariants as list
+use Rattle.ec_engine.specs.declared.showing.ShowEnd.{ShowEnd}
+use Rattle.ec_engine.specs.declared.showing.ShowEnd.TheVariants as show
+use Rattle.ec_engine.specs.declared.solving.SolveEnd.{SolveEnd}
+use Rattle.ec_engine.specs.declared.solving.SolveEnd.TheVariants as solve
 use Rattle.ec_engine.specs.List.{IsDue, PutsPrefix, IsAnswered}
+use Rattle.ec_engine.specs.Show.{IsShowDue, ShowPutsPrefix, IsShowAnswered}
+use Rattle.ec_engine.specs.Solve as solves
+use Rattle.ec_engine.specs.Solve.{IsSolveDue, SolvePutsPrefix, WritesPrefix, IsSolveAnswered, IsSolvable, CanComplete, IsWholeUnlessFailed}
+use Rattle.ec_command.specs.declared.status.Status.{Status}
 use Rattle.ec_command.specs.declared.status.Status.TheVariants as status
+use Rattle.ec_command.specs.declared.words.Job.{Job}
 use Rattle.ec_command.specs.declared.words.Job.TheVariants as job
-use Rattle.ec_command.specs.Ends.{status_of}
+use Rattle.ec_command.specs.Ends.{list_status, show_status, solve_status}
 use Rattle.ec_command.specs.Words.{job_of}
-use Rattle.ec_command.specs.Run.{usage, listed, refused, Puts, PutsPart, IsRun}
+use Rattle.ec_command.specs.Run.{usage, listed, list_refused, solved, limited_by_models, limited_by_conflicts, solve_refused, shown, show_refused, Puts, PutsPart, PutsNothing, Completes, IsRun, IsWholeAnswer, log_of}
 
-pub usage_put : (words : List (List ℕ)) (held : List ℕ → Option (List ℕ)) (before after : List ℕ) → job_of words ≡ None → after ≡ before ++ codes "usage\n" → Puts words held before after status.Usage
-usage_put words held before after none put = record { text = codes "usage\n"; due = usage none; put = put }
+-- ---- words that are no job
 
-pub usage_part : (words : List (List ℕ)) (held : List ℕ → Option (List ℕ)) (before after : List ℕ) → job_of words ≡ None → AppendsPrefix (codes "usage\n") before after → PutsPart words held before after
-usage_part words held before after none put = record { answered = status.Usage; text = codes "usage\n"; due = usage none; put = put }
+pub usage_put : (words : List (List ℕ)) (held holds : List ℕ → Option (List ℕ)) (before after : List ℕ) → job_of words ≡ None → after ≡ before ++ codes "usage\n" → Puts words held holds before after status.Usage
+usage_put words held holds before after none put = record { text = codes "usage\n"; due = usage none; put = put }
 
-module _ (words : List (List ℕ)) (held : List ℕ → Option (List ℕ)) (file : List ℕ) (asked : job_of words ≡ Some (job.List file)) where
-  due_part : (before after : List ℕ) (answer : ListEnd) (text : List ℕ) → IsDue held file answer text → AppendsPrefix text before after → PutsPart words held before after
-  due_part before after (end.Complete count) text due put = record { answered = status.Complete; text = text; due = listed asked due; put = put }
-  due_part before after (end.Refused r) text due put = record { answered = status.Refused; text = text; due = refused asked due; put = put }
-  due_part before after end.Files text due put = absurd due
-  due_part before after end.Out text due put = absurd due
-  due_part before after end.Memory text due put = absurd due
+pub usage_part : (words : List (List ℕ)) (held holds : List ℕ → Option (List ℕ)) (before after : List ℕ) → job_of words ≡ None → AppendsPrefix (codes "usage\n") before after → PutsPart words held holds before after
+usage_part words held holds before after none put = record { answered = status.Usage; text = codes "usage\n"; due = usage none; put = put }
 
-  part : (before after : List ℕ) → PutsPrefix held file before after → PutsPart words held before after
-  part before after p = due_part before after p.answer p.text p.due p.put
+-- what is said where no start can fail is said in any case
+pub wherever_starts_fail : (words : List (List ℕ)) (held holds : List ℕ → Option (List ℕ)) (before after : List ℕ) (start_may_fail : Type 0) (answered : Status) → IsRun words held holds before after ⊥ answered → IsRun words held holds before after start_may_fail answered
+wherever_starts_fail words held holds before after start_may_fail status.Complete p = p
+wherever_starts_fail words held holds before after start_may_fail status.Limit p = p
+wherever_starts_fail words held holds before after start_may_fail status.Refused p = p
+wherever_starts_fail words held holds before after start_may_fail status.No p = p
+wherever_starts_fail words held holds before after start_may_fail status.FilesFault (inl p) = absurd (p.0)
+wherever_starts_fail words held holds before after start_may_fail status.FilesFault (inr p) = inr p
+wherever_starts_fail words held holds before after start_may_fail status.OutFault p = p
+wherever_starts_fail words held holds before after start_may_fail status.Usage p = p
+wherever_starts_fail words held holds before after start_may_fail status.NoMemory p = p
 
-  nothing_or_part : (before after : List ℕ) → (after ≡ before) ⊎ PutsPrefix held file before after → (after ≡ before) ⊎ PutsPart words held before after
-  nothing_or_part before after (inl same) = inl same
-  nothing_or_part before after (inr p) = inr (part before after p)
+-- nothing was done
+pub untouched : (words : List (List ℕ)) (held : List ℕ → Option (List ℕ)) (before : List ℕ) → PutsNothing words held held before before
+untouched words held before = record { same = refl; log_part = λ file log bounds asked. inl refl }
 
-  pub list_run : (before after : List ℕ) (answer : ListEnd) → IsAnswered held file before after answer → IsRun words held before after (status_of answer)
-  list_run before after (end.Complete count) p = record { text = p.text; due = listed asked p.due; put = p.put }
-  list_run before after (end.Refused r) p = record { text = p.text; due = refused asked p.due; put = p.put }
-  list_run before after end.Files p = p
-  list_run before after end.Out p = part before after p
-  list_run before after end.Memory p = nothing_or_part before after p
+-- ---- a job without a log
+
+no_log : (words : List (List ℕ)) (held holds : List ℕ → Option (List ℕ)) (before after : List ℕ) (asked : Job) → job_of words ≡ Some asked → log_of (Some asked) ≡ None → after ≡ before → PutsNothing words held holds before after
+no_log words held holds before after asked is none same = record {
+  same = same;
+  log_part = λ file log bounds other.
+      let clash : Some log ≡ None = ap log_of (sym other ∙ is) ∙ none in
+      absurd (cc);
+}
+
+module _ (words : List (List ℕ)) (held holds : List ℕ → Option (List ℕ)) (start_may_fail : Type 0) (file : List ℕ) (asked : job_of words ≡ Some (job.List file)) where
+  list_due : (before after : List ℕ) (answer : ListEnd) (text : List ℕ) → IsDue held file answer text → AppendsPrefix text before after → PutsPart words held holds before after
+  list_due before after (list.Complete count) text due put = record { answered = status.Complete; text = text; due = listed file count text asked due; put = put }
+  list_due before after (list.Refused r) text due put = record { answered = status.Refused; text = text; due = list_refused file r text asked due; put = put }
+  list_due before after list.Files text due put = absurd due
+  list_due before after list.Out text due put = absurd due
+  list_due before after list.Memory text due put = absurd due
+
+  list_part : (before after : List ℕ) → PutsPrefix held file before after → PutsPart words held holds before after
+  list_part before after p = list_due before after p.answer p.text p.due p.put
+
+  list_memory : (before after : List ℕ) → (after ≡ before) ⊎ PutsPrefix held file before after → PutsNothing words held holds before after ⊎ PutsPart words held holds before after
+  list_memory before after (inl same) = inl (no_log words held holds before after (job.List file) asked refl same)
+  list_memory before after (inr p) = inr (list_part before after p)
+
+  pub list_run : (before after : List ℕ) (answer : ListEnd) → IsAnswered held file before after answer → IsRun words held holds before after start_may_fail (list_status answer)
+  list_run before after (list.Complete count) p = record { text = p.text; due = listed file count p.text asked p.due; put = p.put }
+  list_run before after (list.Refused r) p = record { text = p.text; due = list_refused file r p.text asked p.due; put = p.put }
+  list_run before after list.Files p = inr (no_log words held holds before after (job.List file) asked refl p)
+  list_run before after list.Out p = list_part before after p
+  list_run before after list.Memory p = list_memory before after p
+
+module _ (words : List (List ℕ)) (held holds : List ℕ → Option (List ℕ)) (start_may_fail : Type 0) (file : List ℕ) (asked : job_of words ≡ Some (job.Show file)) where
+  show_due : (before after : List ℕ) (answer : ShowEnd) (text : List ℕ) → IsShowDue held file answer text → AppendsPrefix text before after → PutsPart words held holds before after
+  show_due before after (show.Shown counts) text due put = record { answered = status.Complete; text = text; due = shown file counts text asked due; put = put }
+  show_due before after (show.Refused r) text due put = record { answered = status.Refused; text = text; due = show_refused file r text asked due; put = put }
+  show_due before after show.Files text due put = absurd due
+  show_due before after show.Out text due put = absurd due
+  show_due before after show.Memory text due put = absurd due
+
+  show_part : (before after : List ℕ) → ShowPutsPrefix held file before after → PutsPart words held holds before after
+  show_part before after p = show_due before after p.answer p.text p.due p.put
+
+  show_memory : (before after : List ℕ) → (after ≡ before) ⊎ ShowPutsPrefix held file before after → PutsNothing words held holds before after ⊎ PutsPart words held holds before after
+  show_memory before after (inl same) = inl (no_log words held holds before after (job.Show file) asked refl same)
+  show_memory before after (inr p) = inr (show_part before after p)
+
+  pub show_run : (before after : List ℕ) (answer : ShowEnd) → IsShowAnswered held file before after answer → IsRun words held holds before after start_may_fail (show_status answer)
+  show_run before after (show.Shown counts) p = record { text = p.text; due = shown file counts p.text asked p.due; put = p.put }
+  show_run before after (show.Refused r) p = record { text = p.text; due = show_refused file r p.text asked p.due; put = p.put }
+  show_run before after show.Files p = inr (no_log words held holds before after (job.Show file) asked refl p)
+  show_run before after show.Out p = show_part before after p
+  show_run before after show.Memory p = show_memory before after p
+
+-- ---- a search
+
+-- the log of a solve job is the one that its words name
+same_solve : (words : List (List ℕ)) (file log : List ℕ) (bounds : Bounds) (file' log' : List ℕ) (bounds' : Bounds) → job_of words ≡ Some (job.Solve file log bounds) → job_of words ≡ Some (job.Solve file' log' bounds') → job.Solve file log bounds ≡ job.Solve file' log' bounds'
+same_solve words file log bounds file' log' bounds' is other =
+    let same : Some (job.Solve file log bounds) ≡ Some (job.Solve file' log' bounds') = sym is ∙ other in
+    cc
+
+-- what holds of the file, the log and the bounds of a job holds of those of any equal job
+abbrev Held : (List ℕ → List ℕ → Bounds → Type 0) → Job → Type 0
+Held P (job.List file) = Unit {0}
+Held P (job.Solve file log bounds) = P file log bounds
+Held P (job.Show file) = Unit {0}
+
+module _ (words : List (List ℕ)) (held holds : List ℕ → Option (List ℕ)) (start_may_fail : Type 0) (file log : List ℕ) (bounds : Bounds) (asked : job_of words ≡ Some (job.Solve file log bounds)) where
+  solve_due : (before after : List ℕ) (answer : SolveEnd) (text : List ℕ) → IsSolveDue held file log bounds answer text (holds log) → AppendsPrefix text before after → PutsPart words held holds before after
+  solve_due before after (solve.Done (Complete count)) text due put = record { answered = status.Complete; text = text; due = solved file log bounds count text asked due; put = put }
+  solve_due before after (solve.Done (Models most)) text due put = record { answered = status.Limit; text = text; due = limited_by_models file log bounds most text asked due; put = put }
+  solve_due before after (solve.Done (Conflicts most)) text due put = record { answered = status.Limit; text = text; due = limited_by_conflicts file log bounds most text asked due; put = put }
+  solve_due before after (solve.Refused r) text due put = record { answered = status.Refused; text = text; due = solve_refused file log bounds r text asked due; put = put }
+  solve_due before after solve.Files text due put = absurd (nothing_due (holds log) due)
+    where
+      nothing_due : (written : Option (List ℕ)) → IsSolveDue held file log bounds solve.Files text written → ⊥
+      nothing_due None h = h
+      nothing_due (Some logged) h = h
+  solve_due before after solve.Out text due put = absurd (nothing_due (holds log) due)
+    where
+      nothing_due : (written : Option (List ℕ)) → IsSolveDue held file log bounds solve.Out text written → ⊥
+      nothing_due None h = h
+      nothing_due (Some logged) h = h
+  solve_due before after solve.Memory text due put = absurd (nothing_due (holds log) due)
+    where
+      nothing_due : (written : Option (List ℕ)) → IsSolveDue held file log bounds solve.Memory text written → ⊥
+      nothing_due None h = h
+      nothing_due (Some logged) h = h
+
+  solve_part : (before after : List ℕ) → SolvePutsPrefix held file log bounds before after (holds log) → PutsPart words held holds before after
+  solve_part before after p = solve_due before after p.answer p.text p.due p.put
+
+  solve_nothing : (before after : List ℕ) → solves.PutsNothing held file log bounds before after (holds log) → PutsNothing words held holds before after
+  solve_nothing before after p = record {
+    same = p.same;
+    log_part = λ file' log' bounds' other.
+        subst (Held (λ f l b. (holds l ≡ held l) ⊎ WritesPrefix held f l b (holds l))) (same_solve words file log bounds file' log' bounds' asked other) p.log_part;
+  }
+
+  solve_files : (before after : List ℕ) → (start_may_fail × (after ≡ before)) ⊎ solves.PutsNothing held file log bounds before after (holds log) → (start_may_fail × (after ≡ before)) ⊎ PutsNothing words held holds before after
+  solve_files before after (inl p) = inl p
+  solve_files before after (inr p) = inr (solve_nothing before after p)
+
+  solve_memory : (before after : List ℕ) → solves.PutsNothing held file log bounds before after (holds log) ⊎ SolvePutsPrefix held file log bounds before after (holds log) → PutsNothing words held holds before after ⊎ PutsPart words held holds before after
+  solve_memory before after (inl p) = inl (solve_nothing before after p)
+  solve_memory before after (inr p) = inr (solve_part before after p)
+
+  pub solve_run : (before after : List ℕ) (answer : SolveEnd) → IsSolveAnswered held file log bounds before after (holds log) start_may_fail answer → IsRun words held holds before after start_may_fail (solve_status answer)
+  solve_run before after (solve.Done (Complete count)) p = record { text = p.text; due = solved file log bounds count p.text asked p.due; put = p.put }
+  solve_run before after (solve.Done (Models most)) p = record { text = p.text; due = limited_by_models file log bounds most p.text asked p.due; put = p.put }
+  solve_run before after (solve.Done (Conflicts most)) p = record { text = p.text; due = limited_by_conflicts file log bounds most p.text asked p.due; put = p.put }
+  solve_run before after (solve.Refused r) p = record { text = p.text; due = solve_refused file log bounds r p.text asked p.due; put = p.put }
+  solve_run before after solve.Files p = solve_files before after p
+  solve_run before after solve.Out p = solve_part before after p
+  solve_run before after solve.Memory p = solve_memory before after p
+
+pub whole_status : (answer : SolveEnd) → IsWholeUnlessFailed answer → IsWholeAnswer (solve_status answer)
+whole_status (solve.Done (Complete count)) h = h
+whole_status (solve.Done (Models most)) h = h
+whole_status (solve.Done (Conflicts most)) h = h
+whole_status (solve.Refused r) h = h
+whole_status solve.Files h = h
+whole_status solve.Out h = h
+whole_status solve.Memory h = h
+
+-- a search that can come to its end does, by the job that its file, its log and its bounds make
+pub whole_job : (held : List ℕ → Option (List ℕ)) (file log : List ℕ) (bounds : Bounds) (file' log' : List ℕ) (bounds' : Bounds) (theory : Theory) (answer : SolveEnd) → job.Solve file log bounds ≡ job.Solve file' log' bounds'
+    → ((t : Theory) → IsSolvable held file log bounds t → CanComplete bounds t → IsWholeUnlessFailed answer) → IsSolvable held file' log' bounds' theory → CanComplete bounds' theory → IsWholeAnswer (solve_status answer)
+whole_job held file log bounds file' log' bounds' theory answer same whole =
+    subst (Held (λ f l b. IsSolvable held f l b theory → CanComplete b theory → IsWholeAnswer (solve_status answer))) same (λ solvable can. whole_status answer (whole theory solvable can))
 
 -- a refused status is that of a refusal
-pub refused_end : (answer : ListEnd) → status_of answer ≡ status.Refused → (r : Refusal) × (answer ≡ end.Refused r)
-refused_end (end.Complete count) h = absurd (cc)
-refused_end (end.Refused r) h = (r, λ i. end.Refused r)
-refused_end end.Files h = absurd (cc)
-refused_end end.Out h = absurd (cc)
-refused_end end.Memory h = absurd (cc)
+pub list_refused_end : (answer : ListEnd) → list_status answer ≡ status.Refused → (r : Refusal) × (answer ≡ list.Refused r)
+list_refused_end (list.Complete count) h = absurd (cc)
+list_refused_end (list.Refused r) h = (r, refl)
+list_refused_end list.Files h = absurd (cc)
+list_refused_end list.Out h = absurd (cc)
+list_refused_end list.Memory h = absurd (cc)
+
+pub show_refused_end : (answer : ShowEnd) → show_status answer ≡ status.Refused → (r : Refusal) × (answer ≡ show.Refused r)
+show_refused_end (show.Shown counts) h = absurd (cc)
+show_refused_end (show.Refused r) h = (r, refl)
+show_refused_end show.Files h = absurd (cc)
+show_refused_end show.Out h = absurd (cc)
+show_refused_end show.Memory h = absurd (cc)
+
+pub solve_refused_end : (answer : SolveEnd) → solve_status answer ≡ status.Refused → (r : Refusal) × (answer ≡ solve.Refused r)
+solve_refused_end (solve.Done (Complete count)) h = absurd (cc)
+solve_refused_end (solve.Done (Models most)) h = absurd (cc)
+solve_refused_end (solve.Done (Conflicts most)) h = absurd (cc)
+solve_refused_end (solve.Refused r) h = (r, refl)
+solve_refused_end solve.Files h = absurd (cc)
+solve_refused_end solve.Out h = absurd (cc)
+solve_refused_end solve.Memory h = absurd (cc)
+
+-- ---- jobs
+
+-- words have one job
+pub one_job : (asked : Option Job) (j k : Job) → asked ≡ Some j → asked ≡ Some k → j ≡ k
+one_job asked j k is other =
+    let same : Some j ≡ Some k = sym is ∙ other in
+    cc
+
+-- a solve job with equal names
+pub renamed : (asked : Job) (file file' log log' : List ℕ) (bounds : Bounds) → asked ≡ job.Solve file log bounds → file' ≡ file → log' ≡ log → asked ≡ job.Solve file' log' bounds
+renamed asked file file' log log' bounds is same_file same_log = rw (same_file, same_log) is
+
+-- ---- searches that can come to their end
+
+-- words without a log ask for none
+pub no_search : (words : List (List ℕ)) (held : List ℕ → Option (List ℕ)) (answered : Status) (asked : Option Job) → job_of words ≡ asked → log_of asked ≡ None → Completes words held answered
+no_search words held answered asked is none = record {
+  whole = λ file log bounds theory other solvable can.
+      let clash : Some log ≡ None = ap log_of (sym other ∙ is) ∙ none in
+      absurd (cc);
+}

@@ -1,16 +1,30 @@
 //! The words of the command line.
-ghost use Rattle.std.specs.Prelude.{◌≡◌, Some, None, map, MatchResult};
+ghost use Rattle.std.specs.Prelude.{◌≡◌, Some, None, map, IfOk, MatchResult};
 ghost use Rattle.std.specs.String.{string_bytes};
-ghost use Rattle.ec_command.specs.Words.{job_of, IsNoJob};
+ghost use Rattle.ec_command.specs.Words.{job_of, HasBounds, IsNoJob};
 
+use crate::options::read_bounds;
+use ec_engine::Bounds;
 use ec_lex::word::Word;
-use std::alloc::{AllocError, Global};
+use std::alloc::Global;
 
 /// What the words ask for.
 #[derive(Debug, PartialEq, Eq, Drop)]
 pub enum Job {
-    /// The narratives of a file.
-    List { file: Word },
+    /// The narratives of a file, by a trial of each truth.
+    List {
+        file: Word,
+    },
+    /// The narratives of a file, by a search that is written to a log.
+    Solve {
+        file: Word,
+        log: Word,
+        bounds: Bounds,
+    },
+    /// How large the theory of a file is.
+    Show {
+        file: Word,
+    },
 }
 
 /// Why words give no job.
@@ -22,18 +36,35 @@ pub enum JobFault {
     Memory,
 }
 
-/// The job of the words behind the program's name: `list FILE`, and no other.
+/// A file's name, as it stands.
+fn name(alloc: Global, word: &str) -> Result<Word, JobFault>
+    ensures { MatchResult result (λ name. name ≡ word.now) (λ fault. fault ≡ JobFault.Memory) }
+{
+    Word::of(alloc, word.as_bytes()).map_err(|_| JobFault::Memory)
+}
+
+/// The job of the words behind the program's name: `list FILE`, `solve FILE LOG` and then
+/// `--models N` and `--conflicts N`, each at most once and in any order, or `show FILE`.
 ///
-/// A file's name is taken as it stands.
+/// The names of files are taken as they stand.
 pub fn read_words(alloc: Global, words: &[String]) -> Result<Job, JobFault>
-    ensures { MatchResult result (λ job. job_of (map string_bytes words.now) ≡ Some job) (λ fault. IsNoJob (map string_bytes words.now) fault) }
+    ensures job { MatchResult result (λ job. job_of (map string_bytes words.now) ≡ Some job) (λ fault. IsNoJob (map string_bytes words.now) fault) }
+    ensures bounds { IfOk result (λ job. HasBounds job) }
 {
     match words {
-        [command, file] if command.as_str() == "list" => {
-            match Word::of(alloc, file.as_str().as_bytes()) {
-                Ok(file) => Ok(Job::List { file }),
-                Err(_) => Err(JobFault::Memory),
-            }
+        [command, file] if command.as_str() == "list" => Ok(Job::List {
+            file: name(alloc, file)?,
+        }),
+        [command, file] if command.as_str() == "show" => Ok(Job::Show {
+            file: name(alloc, file)?,
+        }),
+        [command, file, log, options @ ..] if command.as_str() == "solve" => {
+            let bounds = read_bounds(options).ok_or(JobFault::Usage)?;
+            Ok(Job::Solve {
+                file: name(alloc, file)?,
+                log: name(alloc, log)?,
+                bounds,
+            })
         }
         _ => Err(JobFault::Usage),
     }
