@@ -8,8 +8,7 @@
 //! - [`show`] puts how large the file's theory is (specs/Show.antt).
 //!
 //! The crate stands on `ec_accept` for the theory of a file, on `ec_models` and `ec_solve` for the truths of its minimal models, on `ec_narr`
-//! for the text of each, on `ec_log` for the log, on `ec_weight`, `ec_ground` and `ec_encode` for what `show` counts, and on `ec_edge` for
-//! files and sinks.
+//! for the text of each, on `ec_log` for the log, on `ec_weight` and `ec_solve` for what `show` counts, and on `ec_edge` for files and sinks.
 #![tactic(auto)]
 
 mod listing;
