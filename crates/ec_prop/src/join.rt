@@ -1,9 +1,9 @@
 //! Trees joined into one.
 
-ghost use Rattle.std.specs.Prelude.{◌≡◌, ℕ, Bool, true, List, ◌∷◌, [], ◌++◌, IfOk, OnOk, IsTrue};
+ghost use Rattle.std.specs.Prelude.{◌≡◌, ◌≢◌, ℕ, Bool, true, false, not, List, ◌∷◌, [], ◌++◌, IfOk, OnOk, IsTrue};
 ghost use Rattle.std.specs.List.{list_all, list_any};
-ghost use Rattle.ec_folding.specs.Tree.{Tree, true_in};
-ghost use Rattle.ec_folding.specs.Join.{join, conj, disj};
+ghost use Rattle.ec_folding.specs.Tree.{Tree, literal, true_in};
+ghost use Rattle.ec_folding.specs.Join.{constant, join, conj, disj};
 ghost use Rattle.ec_folding.specs.Constants.{is_constant_at_top_only};
 ghost use Rattle.ec_prop.specs.Prop.{tree_of, trees_of};
 ghost use Rattle.ec_prop.specs.Joining.{is_conj, joined_with, joined_with_unopened};
@@ -62,7 +62,8 @@ impl Joining {
 
     /// Whether the parts given so far decide the tree: it is the same, whatever parts follow.
     pub fn is_decided(&self) -> bool
-        ensures { IsTrue result → (rest : List Tree) → joined_with self.now rest ≡ joined_with self.now [] }
+        ensures decided { IsTrue result → (rest : List Tree) → joined_with self.now rest ≡ joined_with self.now [] }
+        ensures undecided { result ≡ false → joined_with self.now (literal 0 true ∷ []) ≢ constant (not (is_conj self.now)) }
     {
         self.decided
     }
