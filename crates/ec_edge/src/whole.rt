@@ -1,5 +1,5 @@
 //! A whole file, up to a limit.
-ghost use Rattle.std.specs.Prelude.{◌≡◌, ◌+◌, ◌≤◌, List, ℕ, None, nat_lt, IsTrue, IsSomeAnd, IfOk, IsErrOf, vec_len};
+ghost use Rattle.std.specs.Prelude.{◌≡◌, ◌+◌, ◌≤◌, None, nat_lt, IsTrue, IsSomeAnd, IfOk, IsErrOf, vec_len};
 ghost use Rattle.ec_edge.specs.Causes.{Rose};
 ghost use Rattle.ec_edge.specs.Pieces.{AllStay, IsRead};
 

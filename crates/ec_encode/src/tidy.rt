@@ -3,7 +3,7 @@
 //! A mark for each variable says with which sign it was seen, so that a clause is tidied in time linear in its length.
 //! The marks are taken away after each clause.
 
-ghost use Rattle.std.specs.Prelude.{◌≡◌, ℕ, ◌+◌, ◌-◌, ◌<◌, ◌≤◌, ◌^◌, length, List, [], ◌∷◌, ◌++◌, IfOk, OnOk, OnErr, IsTrue, not, if◌then◌else◌};
+ghost use Rattle.std.specs.Prelude.{◌≡◌, ℕ, ◌+◌, ◌-◌, ◌<◌, ◌^◌, length, [], ◌∷◌, ◌++◌, IfOk, OnOk, OnErr, IsTrue, not, if◌then◌else◌};
 ghost use Rattle.ec_clause.specs.ClauseList.{IsClause};
 ghost use Rattle.ec_naming.specs.Tidy.{tidied};
 ghost use Rattle.ec_naming.specs.Marks.{kept_after, clash_after, marks_after, unmarked, blank, AreInRange};

@@ -1,5 +1,5 @@
 //! A line of a log, read from its bytes.
-ghost use Rattle.std.specs.Prelude.{◌≡◌, ◌≢◌, ◌≤◌, ◌++◌, ℕ, List, codes, IfOk, IsErrOf, IsTrue, ◌↔◌, length};
+ghost use Rattle.std.specs.Prelude.{◌≡◌, ◌≢◌, ◌++◌, ℕ, List, codes, IfOk, IsErrOf, IsTrue, ◌↔◌};
 ghost use Rattle.std.specs.List.{flat_map, AllByRecursion};
 ghost use Rattle.ec_clause.specs.Literal.{Literal};
 ghost use Rattle.ec_log.specs.Digits.{IsHexDigit};

@@ -1,7 +1,7 @@
 //! The lines of a log, spelled with the byte 10 that ends each.
 ghost use Rattle.std.specs.Prelude.{◌≡◌, ◌++◌, ◌+◌, ◌≤◌, ◌<◌, false, IfOk, OnOk, slice_index_or};
 ghost use Rattle.std.specs.List.{flat_map};
-ghost use Rattle.ec_log.specs.Digits.{bit, digit_of, digits_of, hex_digit};
+ghost use Rattle.ec_log.specs.Digits.{bit, digit_of, digits_of};
 ghost use Rattle.ec_log.specs.Kept.{entry_line};
 ghost use Rattle.ec_log.specs.Line.{Header, Derived, Blocked, End, literal_word, number_word};
 ghost use Rattle.ec_log.specs.Log.{forbidden, line_text};
