@@ -38,13 +38,13 @@ marks_formed (t ∷ ts) h = (by_kind t.kind t.word (All-head IsFormed t ts h), m
 
 -- ---- one statement
 
-up_to_moves : (t : Token) (ts : List Token) (o : Option ℕ) → 0 < up_to (t ∷ ts) o
-up_to_moves t ts None = omega arith
-up_to_moves t ts (Some n) = omega arith
+up_to_moves : (x : Mark) (ms : List Mark) (o : Option ℕ) → 0 < up_to (x ∷ ms) o
+up_to_moves x ms None = omega arith
+up_to_moves x ms (Some n) = omega arith
 
 -- the kind of a statement, by its marks, decides how long it is
 len_moves : (ms : List Mark) (t : Token) (ts : List Token) → 0 < len_by (form_of ms) t ts
-len_moves [] t ts = up_to_moves t ts _
+len_moves [] t ts = up_to_moves (mark_of t) (marks ts) _
 len_moves (m.load w ∷ ms) t ts = omega arith
 len_moves (m.choice w ∷ ms) t ts = omega arith
 len_moves (m.keyword x w ∷ ms) t ts = omega arith
@@ -52,11 +52,11 @@ len_moves (m.lower v ∷ ms) t ts = by_upper (begins_upper ms)
   where
     by_upper : (upper : Bool) → 0 < len_by (line_or_sentence upper) t ts
     by_upper true = omega arith
-    by_upper false = up_to_moves t ts _
-len_moves (m.upper n ∷ ms) t ts = up_to_moves t ts _
-len_moves (m.number n ∷ ms) t ts = up_to_moves t ts _
-len_moves (m.sign x ∷ ms) t ts = up_to_moves t ts _
-len_moves (m.other ∷ ms) t ts = up_to_moves t ts _
+    by_upper false = up_to_moves (mark_of t) (marks ts) _
+len_moves (m.upper n ∷ ms) t ts = up_to_moves (mark_of t) (marks ts) _
+len_moves (m.number n ∷ ms) t ts = up_to_moves (mark_of t) (marks ts) _
+len_moves (m.sign x ∷ ms) t ts = up_to_moves (mark_of t) (marks ts) _
+len_moves (m.other ∷ ms) t ts = up_to_moves (mark_of t) (marks ts) _
 
 first_some : (t : Token) (ts : List Token) → 0 < length (first (t ∷ ts))
 first_some t ts = omega (arith, len_moves (marks (t ∷ ts)) t ts, length-take (statement_len (t ∷ ts)) (t ∷ ts))

@@ -1,5 +1,5 @@
 -- The loop that counts what is nested.
-use Rattle.std.proofs.Common.{◌≡◌, ℕ, zero, suc, ◌+◌, ◌<◌, ◌≤◌, Bool, true, false, List, [], ◌∷◌, length, take, refl, ap, arith, ◌⊎◌, inl, inr}
+use Rattle.std.proofs.Common.{◌≡◌, ℕ, zero, suc, ◌+◌, ◌<◌, ◌≤◌, Bool, true, false, List, [], ◌∷◌, length, take, ap, arith, inl, inr}
 use Rattle.ec_parse.specs.Mark.{Mark}
 use Rattle.ec_parse.specs.Cut.{is_open, is_close, is_nesting, one_if, count, IsDeep}
 

@@ -1,11 +1,10 @@
 -- The turns of the loops that read the parts of a formula.
-use Rattle.std.proofs.Common.{◌≡◌, ℕ, ◌+◌, ◌<◌, ◌≤◌, Bool, true, false, List, [], ◌∷◌, ◌++◌, Option, Some, None, length, refl, ap, sym, arith}
+use Rattle.std.proofs.Common.{◌≡◌, ℕ, ◌<◌, ◌≤◌, true, List, [], ◌∷◌, ◌++◌, None, length, refl, ap, arith}
 use Rattle.ec_parse.specs.declared.mark.Sign.{Sign}
 use Rattle.ec_parse.specs.declared.mark.Sign.TheVariants as s
 use Rattle.ec_parse.specs.declared.fault.Fault.{Fault}
 use Rattle.ec_parse.specs.declared.fault.Fault.TheVariants.{Memory, Syntax}
 use Rattle.ec_syntax.specs.declared.tree.Tree.{Tree}
-use Rattle.ec_syntax.specs.declared.tree.Op.{Op}
 use Rattle.ec_syntax.specs.Written.{Term, Terms, Formula, Formulas, no_formulas, formula, all_of, any_of, iff}
 use Rattle.ec_syntax.specs.View.{formula_of, formulas_of}
 use Rattle.ec_parse.specs.Mark.{Mark, sign, Lacks}
@@ -18,7 +17,7 @@ use Rattle.ec_parse.specs.declared.mark.Mark as rust
 use Rattle.ec_parse.specs.Reads.{Fails, Reads, free}
 use Rattle.ec_parse.specs.Formulas.{joining, joins, compared, behind, goes_on, IsComparison, comparison, IsAtom, predicate, compares, Scope, IsUnary, negation, group, every, some, atomic, IsScope, scope, IsConjunction, conjunction, AreConjuncts, no_conjunct, conjunct, IsDisjunction, disjunction, AreDisjuncts, no_disjunct, disjunct, IsImplication, plain, implication, IsFormula, implications, Equates, no_side, side}
 use Rattle.ec_parse.proofs.OneTerm.{arguments_one, term_one, term_from, tail_of}
-use Rattle.ec_parse.proofs.OneAtom.{compared_binds, compared_goes, stays_binds, no_comparison, atom_sign}
+use Rattle.ec_parse.proofs.OneAtom.{compared_binds, stays_binds, atom_sign}
 use Rattle.ec_parse.proofs.Parted.{variable_one, parted_one}
 use Rattle.ec_parse.proofs.OneFormula.{unary_one, conjunction_one, disjunction_one, implication_one, formula_one, conjuncts_from, disjuncts_from, implication_from, formula_from, equates_from, disjuncts_stop, equates_stop}
 

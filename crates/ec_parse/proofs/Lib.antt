@@ -2,6 +2,7 @@ pub mod Depth
 pub mod FormulaSteps
 pub mod LineSteps
 pub mod ListSteps
+pub mod Marks
 pub mod OneAtom
 pub mod OneFormula
 pub mod OneTerm

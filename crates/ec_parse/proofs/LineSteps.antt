@@ -1,8 +1,7 @@
 -- What line statements spell: one content at most, and what isn't spelled.
-use Rattle.std.proofs.Common.{◌≡◌, ◌≢◌, ℕ, ℤ, pos, neg_ℤ, ◌<◌, ◌≤◌, Bool, true, false, List, [], ◌∷◌, ◌++◌, ◌==◌, length, map, Option, Some, None, refl, ap, sym, subst, arith}
+use Rattle.std.proofs.Common.{◌≡◌, ℕ, ℤ, ◌<◌, true, false, List, [], ◌∷◌, ◌==◌, length, map, None, refl, ap, sym, subst, arith}
 use Rattle.ec_parse.specs.declared.mark.Sign.{Sign}
 use Rattle.ec_parse.specs.declared.mark.Sign.TheVariants as s
-use Rattle.ec_parse.specs.declared.mark.Keyword.{Keyword}
 use Rattle.ec_parse.specs.declared.mark.Keyword.TheVariants as k
 use Rattle.ec_parse.specs.declared.fault.Fault.{Fault}
 use Rattle.ec_parse.specs.declared.fault.Fault.TheVariants.{Memory, Syntax}
@@ -10,13 +9,12 @@ use Rattle.ec_syntax.specs.declared.statement.SortItem.{SortItem}
 use Rattle.ec_syntax.specs.Written.{Content, Shape}
 use Rattle.ec_parse.specs.Mark.{Mark, sign, Lacks}
 use Rattle.ec_parse.specs.Mark as m
-use Rattle.ec_parse.specs.Terms.{opens}
 use Rattle.ec_parse.specs.Reads.{Fails, Unspelled, Ending, free, item_of}
-use Rattle.ec_parse.specs.Lists.{IsName, IsVariable, variable, AreMore, no_more, one_more, AreParted, parted, commas}
+use Rattle.ec_parse.specs.Lists.{IsName, IsVariable, variable, AreParted, parted, commas}
 use Rattle.ec_parse.specs.Lines.{IsWhole, positive, negative, IsShape, bare, empty, full, colons, IsSortItem, orphan, child, lower_of, is_left_out, IsLine, sorts, reified, constants, events, fluents, predicates, noninertial, range, completion, labelled_completion, left_out, IsAlone, load, choice, ignored, is_choice, first_word, after_word}
-use Rattle.ec_parse.proofs.OneTerm.{Same, tail_of}
+use Rattle.ec_parse.proofs.OneTerm.{Same}
 use Rattle.ec_parse.proofs.TermSteps.{lacks_open}
-use Rattle.ec_parse.proofs.Parted.{name_one, variable_one, parted_one, Parts, parts_end, stops_commas}
+use Rattle.ec_parse.proofs.Parted.{name_one, variable_one, parted_one, Parts, parts_end}
 
 -- ---- one reading at most
 

@@ -1,13 +1,11 @@
 -- Lists of words parted by commas.
-use Rattle.std.proofs.Common.{◌≡◌, ℕ, ◌<◌, ◌≤◌, List, [], ◌∷◌, ◌++◌, length, map, Option, Some, None, refl, ap, arith}
-use Rattle.ec_parse.specs.declared.fault.Fault.{Fault}
-use Rattle.ec_parse.specs.declared.fault.Fault.TheVariants.{Memory, Syntax}
+use Rattle.std.proofs.Common.{◌≡◌, ℕ, List, [], ◌∷◌, None, refl}
 use Rattle.ec_parse.specs.Mark.{Mark, Lacks}
 use Rattle.ec_parse.specs.Mark as m
 use Rattle.ec_parse.specs.Terms.{variable_of}
-use Rattle.ec_parse.specs.Reads.{Fails, free, word_of}
+use Rattle.ec_parse.specs.Reads.{word_of}
 use Rattle.ec_parse.specs.Lists.{IsName, name, IsVariable, variable, AreMore, AreParted, commas}
-use Rattle.ec_parse.proofs.Parted.{name_one, variable_one, map_word, Parts, parts_end, stops_commas}
+use Rattle.ec_parse.proofs.Parted.{name_one, variable_one, map_word, Parts, parts_end}
 
 pub no_name : {ms : List Mark} {a : List ℕ} {r : List Mark} → ((n : List ℕ) (more : List Mark) → ms ≡ m.upper n ∷ more → ⊥) → IsName ms a r → ⊥
 no_name lacks name = lacks _ _ refl

@@ -1,12 +1,12 @@
 -- A list of marks spells one atom at most.
-use Rattle.std.proofs.Common.{◌≡◌, ℕ, ◌<◌, Bool, true, false, List, [], ◌∷◌, Option, Some, None, refl, ap, sym, subst, arith, ◌⊎◌, inl, inr}
+use Rattle.std.proofs.Common.{◌≡◌, ℕ, ◌<◌, true, false, List, [], ◌∷◌, Some, refl, ap, arith, ◌⊎◌, inl, inr}
 use Rattle.ec_parse.specs.declared.mark.Sign.{Sign}
 use Rattle.ec_parse.specs.declared.mark.Sign.TheVariants as s
 use Rattle.ec_syntax.specs.declared.tree.Op.{Op}
 use Rattle.ec_syntax.specs.Written.{Term, Terms, Formula}
 use Rattle.ec_parse.specs.Mark.{Mark, sign}
 use Rattle.ec_parse.specs.Mark as m
-use Rattle.ec_parse.specs.Terms.{binding, binds, opens, IsFactor, minus, digits, variable_alone, application, group, AreArguments, IsProduct, factors, Multiplies, no_factor, times, IsTerm, products, Adds, no_product, plus, less_by}
+use Rattle.ec_parse.specs.Terms.{binding, binds, opens, IsFactor, minus, variable_alone, application, group, AreArguments, factors, Multiplies, no_factor, times, IsTerm, products, Adds, no_product, plus, less_by}
 use Rattle.ec_parse.specs.Formulas.{op_of, compared, behind, continues, goes_on, IsComparison, comparison, IsAtom, predicate, compares}
 use Rattle.ec_parse.proofs.OneTerm.{Same, arguments_one, term_one, term_from}
 

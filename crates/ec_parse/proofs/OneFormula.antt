@@ -1,5 +1,5 @@
 -- A list of marks spells one formula at most.
-use Rattle.std.proofs.Common.{◌≡◌, ℕ, ◌<◌, List, [], ◌∷◌, refl, ap, sym, subst, arith}
+use Rattle.std.proofs.Common.{◌≡◌, ◌<◌, List, ◌∷◌, refl, ap, sym, subst, arith}
 use Rattle.ec_parse.specs.declared.mark.Sign.{Sign}
 use Rattle.ec_parse.specs.declared.mark.Sign.TheVariants as s
 use Rattle.ec_syntax.specs.Written.{Formula, Formulas, iff}

@@ -1,7 +1,7 @@
 -- A list of marks spells one term at most.
-use Rattle.std.proofs.Common.{◌≡◌, ℕ, ◌<◌, ◌≤◌, List, [], ◌∷◌, refl, ap, sym, subst, arith}
+use Rattle.std.proofs.Common.{◌≡◌, ◌<◌, List, ◌∷◌, refl, ap, sym, subst, arith}
 use Rattle.ec_parse.specs.declared.mark.Sign.TheVariants as s
-use Rattle.ec_syntax.specs.Written.{Term, sum, difference, product, Terms, no_terms, term}
+use Rattle.ec_syntax.specs.Written.{Term, sum, difference, product, Terms}
 use Rattle.ec_parse.specs.Mark.{Mark, sign}
 use Rattle.ec_parse.specs.Terms.{binds, IsFactor, minus, digits, variable_alone, application, group, AreArguments, bare, empty, full, AreTerms, terms, AreMoreTerms, no_more, one_more, IsProduct, factors, Multiplies, no_factor, times, IsTerm, products, Adds, no_product, plus, less_by}
 

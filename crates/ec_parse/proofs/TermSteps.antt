@@ -1,5 +1,5 @@
 -- The turns of the loops that group to the left.
-use Rattle.std.proofs.Common.{◌≡◌, ℕ, ◌+◌, ◌<◌, ◌≤◌, List, [], ◌∷◌, ◌++◌, false, None, Some, length, refl, ap, sym, arith}
+use Rattle.std.proofs.Common.{◌≡◌, ℕ, ◌<◌, ◌≤◌, List, [], ◌∷◌, ◌++◌, false, length, refl, ap, arith}
 use Rattle.ec_parse.specs.declared.mark.Sign.{Sign}
 use Rattle.ec_parse.specs.declared.mark.Sign.TheVariants as s
 use Rattle.ec_parse.specs.declared.fault.Fault.{Fault}
@@ -11,7 +11,7 @@ use Rattle.ec_parse.specs.Mark.{Mark, sign, Lacks}
 use Rattle.ec_parse.specs.Mark as m
 use Rattle.ec_parse.specs.Terms.{binding, binds, opens, IsFactor, minus, digits, variable_alone, application, group, AreArguments, bare, empty, full, AreTerms, terms, AreMoreTerms, no_more, one_more, IsProduct, factors, Multiplies, no_factor, times, IsTerm, products, Adds, no_product, plus, less_by}
 use Rattle.ec_parse.specs.Reads.{Fails, free}
-use Rattle.ec_parse.proofs.OneTerm.{factor_one, arguments_one, terms_one, product_one, term_one, multiplies_from, adds_from, more_from, adds_stop, more_stop, tail_of, no_terms_close}
+use Rattle.ec_parse.proofs.OneTerm.{factor_one, terms_one, product_one, term_one, multiplies_from, adds_from, more_from, adds_stop, more_stop}
 
 binding_low : (x : Sign) → binding x < 4
 binding_low s.Comma = omega arith

@@ -1,7 +1,6 @@
 -- The turns of the loop over the statements, and that tokens have one reading.
-use Rattle.std.proofs.Common.{Option, Some, None, slice_get, Bool, true, false, ◌==◌, ◌≡◌, ◌≢◌, ℕ, suc, ◌+◌, ◌<◌, ◌≤◌, List, [], ◌∷◌, ◌++◌, length, take, drop, map, Result, Ok, Err, refl, ap, sym, ◌∙◌, arith}
-use Rattle.std.specs.declared.vec.Vec.{Vec}
-use Rattle.std.specs.declared.alloc.Global.{Global}
+use Rattle.std.proofs.Common.{get_or, ◌≡◌, ℕ, ◌+◌, ◌<◌, List, [], ◌∷◌, ◌++◌, length, take, drop, map, Ok, Err, refl, ap, sym, subst, ◌∙◌, arith}
+use Rattle.std.proofs.lemmas.List.{drop-drop, drop_more}
 use Rattle.ec_lex.specs.declared.token.Token.{Token}
 use Rattle.ec_parse.specs.declared.mark.Sign.TheVariants as s
 use Rattle.ec_parse.specs.declared.fault.ParseFault.{ParseFault}
@@ -10,21 +9,23 @@ use Rattle.ec_parse.specs.declared.cut.Form.{Form}
 use Rattle.ec_parse.specs.declared.cut.Form.TheVariants.{Alone, Line, Sentence}
 use Rattle.ec_syntax.specs.declared.statement.Statement as rust
 use Rattle.ec_syntax.specs.declared.statement.Content as content
-use Rattle.ec_syntax.specs.Written.{Formula, Content, Statement, no_terms}
+use Rattle.ec_syntax.specs.Written.{Formula, Content}
 use Rattle.ec_syntax.specs.View.{content_of, statement_of}
 use Rattle.ec_parse.specs.declared.fault.Fault.{Fault}
 use Rattle.ec_parse.specs.declared.fault.Fault.TheVariants as F
-use Rattle.ec_parse.specs.Mark.{Mark, sign, marks, Lacks}
+use Rattle.ec_parse.specs.declared.mark.Mark as mark
+use Rattle.ec_parse.specs.Mark.{Mark, sign, marks, seen_all, Lacks}
 use Rattle.ec_parse.specs.Reads.{Fails, Unspelled}
 use Rattle.ec_parse.specs.Mark as m
 use Rattle.ec_parse.specs.Terms.{bare}
 use Rattle.ec_parse.specs.Formulas.{joins, IsFormula, implications, no_side, plain, disjunction, no_disjunct, conjunction, no_conjunct, atomic, predicate}
 use Rattle.ec_parse.specs.Lines.{IsAlone, load, choice, ignored}
 use Rattle.ec_parse.specs.Cut.{form_of, statement_len}
-use Rattle.ec_parse.specs.Statements.{IsStopped, IsSentence, labelled, unlabelled, Spells, IsNested, first, others, Found, put, AreStatements, none, statement, deep, fault, Answers, ReadsContent}
+use Rattle.ec_parse.specs.Statements.{IsStopped, IsSentence, labelled, unlabelled, Spells, first, others, Found, put, AreStatements, none, statement, deep, fault, Answers, ReadsContent}
 use Rattle.ec_parse.proofs.OneFormula.{formula_one}
 use Rattle.ec_parse.proofs.OneTerm.{tail_of}
 use Rattle.ec_parse.proofs.LineSteps.{line_one}
+use Rattle.ec_parse.proofs.Marks.{seen_front, seen_behind}
 
 -- ---- one reading
 
@@ -136,14 +137,42 @@ cut_fails tokens rest head form x behind found (Syntax line word) c e f h d = en
 cut_fails tokens rest head form x behind found (Deep line) c e f h d = ends_so tokens rest found _ c (rw (e, d.0) (deep (rw (f, h, e) at d.1)))
 cut_fails tokens rest head form x behind found Memory c e f h d = tt
 
-pub head_of : (rest : List Token) (x : Token) → Some x ≡ slice_get rest 0 → rest ≡ x ∷ drop 1 rest
-head_of [] x h = absurd cc
-head_of (y ∷ rest) x h = let e : x ≡ y = cc in rw e refl
+-- ---- a turn over the tokens and their marks
 
-pub none_of : (rest : List Token) → None ≡ slice_get rest 0 → rest ≡ []
-none_of [] h = refl
-none_of (y ∷ rest) h = absurd cc
+-- what is left from a place on, with its marks, and what the first statement there has
+pub record Ahead (tokens : List Token) (place : ℕ) (rest : List Token) (ahead : List mark.Mark) (form : Form) (len : ℕ) (own : List mark.Mark) : Type 0 where
+  pub is_rest : rest ≡ drop place tokens
+  pub is_seen : seen_all ahead ≡ marks rest
+  pub is_form : form ≡ form_of (seen_all ahead)
+  pub is_len : len ≡ statement_len rest
+  pub is_own : own ≡ take len ahead
 
-pub some_of : (rest : List Token) (x : Token) → Some x ≡ slice_get rest 0 → 0 < length rest
-some_of [] x h = absurd cc
-some_of (y ∷ rest) x h = omega arith
+pub ahead_of : (tokens : List Token) (place : ℕ) (all items : List mark.Mark) (rest : List Token) (ahead : List mark.Mark) (form : Form) (len : ℕ) (own : List mark.Mark) → all ≡ items → seen_all items ≡ marks tokens → rest ≡ drop place tokens
+    → ahead ≡ drop place all → form ≡ form_of (seen_all ahead) → len ≡ statement_len rest → own ≡ take len ahead → Ahead tokens place rest ahead form len own
+ahead_of tokens place all items rest ahead form len own is seen r a f n o = record {
+  is_rest = r;
+  is_seen = ap seen_all a ∙ seen_behind all tokens place (ap seen_all is ∙ seen) ∙ ap marks (sym r);
+  is_form = f;
+  is_len = n;
+  is_own = o;
+}
+
+own_marks : {tokens rest : List Token} {place len : ℕ} {ahead own : List mark.Mark} {form : Form} → Ahead tokens place rest ahead form len own → seen_all own ≡ marks (first rest)
+own_marks {rest = rest} {ahead = ahead} a = ap seen_all a.is_own ∙ seen_front ahead rest _ a.is_seen ∙ ap (λ n. marks (take n rest)) a.is_len
+
+from_place : (tokens : List Token) (place : ℕ) (x : Token) → place < length tokens → x ≡ get_or tokens place x → drop place tokens ≡ x ∷ drop (place + 1) tokens
+from_place tokens place x w e = drop_more tokens place x w ∙ ap (λ t. t ∷ drop (place + 1) tokens) (sym e)
+
+pub place_goes : (tokens : List Token) (place : ℕ) (rest : List Token) (ahead : List mark.Mark) (form : Form) (len : ℕ) (own : List mark.Mark) (x : Token) (c : content.Content) (found new : List rust.Statement)
+    → Cut tokens (drop place tokens) found → place < length tokens → x ≡ get_or tokens place x → Ahead tokens place rest ahead form len own → ReadsContent form x (seen_all own) (Ok c) → new ≡ found ++ record { line = x.line; content = c } ∷ []
+    → Cut tokens (drop (place + len) tokens) new
+place_goes tokens place rest ahead form len own x c found new k w e a d n =
+    let tail : drop (place + len) tokens ≡ drop (statement_len rest) rest = sym (drop-drop len place tokens) ∙ ap (drop len) (sym a.is_rest) ∙ ap (λ n. drop n rest) a.is_len in
+    let reads = subst (λ ms. ReadsContent form x ms (Ok c)) (own_marks a) d in
+    cut_goes tokens rest (first rest) (drop (place + len) tokens) form x (drop (place + 1) tokens) c found new (rw a.is_rest k) (a.is_rest ∙ from_place tokens place x w e) (a.is_form ∙ ap form_of a.is_seen) refl tail reads n
+
+pub place_fails : (tokens : List Token) (place : ℕ) (rest : List Token) (ahead : List mark.Mark) (form : Form) (len : ℕ) (own : List mark.Mark) (x : Token) (found : List rust.Statement) (e : ParseFault)
+    → Cut tokens (drop place tokens) found → place < length tokens → x ≡ get_or tokens place x → Ahead tokens place rest ahead form len own → ReadsContent form x (seen_all own) (Err e) → Answers tokens (Err e)
+place_fails tokens place rest ahead form len own x found e k w g a d =
+    cut_fails tokens rest (first rest) form x (drop (place + 1) tokens) found e (rw a.is_rest k) (a.is_rest ∙ from_place tokens place x w g) (a.is_form ∙ ap form_of a.is_seen) refl
+    (subst (λ ms. ReadsContent form x ms (Err e)) (own_marks a) d)

@@ -1,5 +1,5 @@
 -- Where a statement ends, and when a sentence is nested too deeply.
-use Rattle.std.specs.Prelude.{◌≡◌, ℕ, suc, ◌+◌, ◌<◌, length, take, position, Bool, true, false, ◌||◌, ◌==◌, List, [], ◌∷◌, Option, Some, None, if◌then◌else◌, ◌⊎◌}
+use Rattle.std.specs.Prelude.{ℕ, suc, ◌+◌, ◌<◌, length, take, position, Bool, true, false, ◌||◌, ◌==◌, List, [], ◌∷◌, Option, Some, None, if◌then◌else◌, ◌⊎◌}
 use Rattle.ec_lex.specs.declared.token.Token.{Token}
 use Rattle.ec_parse.specs.declared.mark.Sign.{Sign}
 use Rattle.ec_parse.specs.declared.mark.Sign.TheVariants as s
@@ -41,19 +41,19 @@ abbrev pub line_len : Token → List Token → ℕ
 line_len before [] = 0
 line_len before (t ∷ ts) = if t.line == before.line || is_comma (mark_of before) then suc (line_len t ts) else 0
 
--- up to and with the token at this place, or to the end
-abbrev pub up_to : List Token → Option ℕ → ℕ
-up_to ts None = length ts
-up_to ts (Some n) = n + 1
+-- up to and with the mark at this place, or to the end
+abbrev pub up_to : List Mark → Option ℕ → ℕ
+up_to ms None = length ms
+up_to ms (Some n) = n + 1
 
 -- A sentence goes up to and with the first stop.
-abbrev pub sentence_len : List Token → ℕ
-sentence_len ts = up_to ts (position (λ t. is_stop (mark_of t)) ts)
+abbrev pub sentence_len : List Mark → ℕ
+sentence_len ms = up_to ms (position is_stop ms)
 
 abbrev pub len_by : Form → Token → List Token → ℕ
 len_by Alone t ts = 1
 len_by Line t ts = suc (line_len t ts)
-len_by Sentence t ts = sentence_len (t ∷ ts)
+len_by Sentence t ts = sentence_len (marks (t ∷ ts))
 
 -- how many tokens the first statement has
 abbrev pub statement_len : List Token → ℕ

@@ -1,10 +1,9 @@
 -- Lists whose items are parted by commas.
-use Rattle.std.specs.Prelude.{◌≡◌, ℕ, List, [], ◌∷◌, Option, Some, None}
+use Rattle.std.specs.Prelude.{◌≡◌, ℕ, List, [], ◌∷◌, Some}
 use Rattle.ec_parse.specs.declared.mark.Sign.TheVariants as s
 use Rattle.ec_parse.specs.Mark.{Mark, sign}
 use Rattle.ec_parse.specs.Mark as m
 use Rattle.ec_parse.specs.Terms.{variable_of}
-use Rattle.ec_parse.specs.Reads.{Rule}
 
 -- a name: an upper-case word
 pub data IsName : List Mark → List ℕ → List Mark → Type 0 where

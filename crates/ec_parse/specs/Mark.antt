@@ -1,5 +1,5 @@
 -- What a rule of the grammar sees of a token.
-use Rattle.std.specs.Prelude.{◌≡◌, ℕ, Bool, List, [], ◌∷◌, map, Option, Some, None, if◌then◌else◌, codes, nat_le}
+use Rattle.std.specs.Prelude.{◌≡◌, ℕ, List, ◌∷◌, map, Option, Some, None, if◌then◌else◌, codes, nat_le}
 use Rattle.std.specs.Str.{bytes_eq}
 use Rattle.ec_lex.specs.Bytes.{value}
 use Rattle.ec_lex.specs.declared.token.Kind.{Kind}

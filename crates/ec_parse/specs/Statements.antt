@@ -1,13 +1,11 @@
 -- The statements of a list of tokens, or its first fault.
-use Rattle.std.specs.Prelude.{◌≡◌, ℕ, List, [], ◌∷◌, take, drop, map, Result, Ok, Err, Option, Some, None}
+use Rattle.std.specs.Prelude.{◌≡◌, ℕ, List, [], ◌∷◌, take, drop, map, Result, Ok, Err, Some, None}
 use Rattle.std.specs.declared.vec.Vec.{Vec}
 use Rattle.std.specs.declared.alloc.Global.{Global}
 use Rattle.ec_lex.specs.declared.token.Token.{Token}
 use Rattle.ec_parse.specs.declared.mark.Sign.TheVariants as s
 use Rattle.ec_parse.specs.declared.cut.Form.{Form}
 use Rattle.ec_parse.specs.declared.cut.Form.TheVariants.{Alone, Line, Sentence}
-use Rattle.ec_parse.specs.declared.fault.Fault as inner
-use Rattle.ec_parse.specs.declared.fault.Fault.TheVariants as i
 use Rattle.ec_parse.specs.declared.fault.ParseFault.{ParseFault}
 use Rattle.ec_parse.specs.declared.fault.ParseFault.TheVariants.{Syntax, Deep, Memory}
 use Rattle.ec_syntax.specs.declared.statement.Statement as rust

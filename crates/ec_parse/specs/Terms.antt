@@ -1,8 +1,7 @@
 -- Which term a list of marks spells. `IsTerm ms a rest` says that the marks of ms before rest spell a.
-use Rattle.std.specs.Prelude.{◌≡◌, ℕ, ◌<◌, Bool, true, false, List, [], ◌∷◌, Option, Some, None}
+use Rattle.std.specs.Prelude.{◌≡◌, ℕ, Bool, true, false, List, ◌∷◌, Option, Some, None}
 use Rattle.ec_parse.specs.declared.mark.Sign.{Sign}
 use Rattle.ec_parse.specs.declared.mark.Sign.TheVariants as s
-use Rattle.ec_parse.specs.declared.mark.Keyword.{Keyword}
 use Rattle.ec_parse.specs.declared.mark.Keyword.TheVariants as k
 use Rattle.ec_syntax.specs.Written.{Term, Terms, no_terms, term, variable, sum, difference, product, negative}
 use Rattle.ec_syntax.specs.Written as w

@@ -1,7 +1,7 @@
 //! Loads and options.
-ghost use Rattle.std.specs.Prelude.{◌≡◌, ◌≢◌, ◌∷◌, [], ◌≤◌, length, MatchOption, None, Some, true, false};
+ghost use Rattle.std.specs.Prelude.{◌≡◌, ◌∷◌, [], ◌≤◌, length, MatchOption, None, Some, true, false};
 ghost use Rattle.std.specs.List.{prefix_len};
-ghost use Rattle.ec_parse.specs.Mark.{seen, seen_all};
+ghost use Rattle.ec_parse.specs.Mark.{seen_all};
 ghost use Rattle.ec_parse.specs.Mark as spec;
 ghost use Rattle.ec_parse.specs.Lines.{IsAlone, first_word, after_word};
 ghost use Rattle.ec_parse.specs.Lines as lines;

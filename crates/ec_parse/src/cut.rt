@@ -1,10 +1,11 @@
 //! Where a statement ends, and when a sentence is nested too deeply.
-ghost use Rattle.std.specs.Prelude.{◌≡◌, ◌≤◌, ◌<◌, ◌∷◌, ◌+◌, length, position, IfSome, true, false};
+ghost use Rattle.std.specs.Prelude.{◌≡◌, ◌≤◌, ◌<◌, ◌+◌, length, position, IfSome, true, false};
 ghost use Rattle.ec_parse.specs.Cut.{line_len, sentence_len, IsDeep};
 ghost use Rattle.ec_parse.specs.Cut as spec;
-ghost use Rattle.ec_parse.specs.Mark.{mark_of, marks, seen};
+ghost use Rattle.ec_parse.specs.Mark.{mark_of, seen, seen_all};
+ghost use Rattle.ec_parse.specs.Mark as m;
 
-use crate::mark::{Mark, Sign, mark_at};
+use crate::mark::{Mark, Sign, mark_at, next};
 use ec_lex::token::Token;
 
 /// The kind of a statement, by its first tokens.
@@ -15,23 +16,23 @@ pub(crate) enum Form {
     Sentence,
 }
 
-fn begins_upper(tokens: &[Token]) -> bool
-    ensures { result ≡ spec.begins_upper (marks tokens.now) }
+fn begins_upper(marks: &[Mark<'_>]) -> bool
+    ensures { result ≡ spec.begins_upper (seen_all marks.now) }
 {
-    match tokens {
-        [first, ..] => matches!(mark_at(first), Mark::Upper(_)),
-        [] => false,
-    }
+    let Some((first, _)) = next(marks) else {
+        return false;
+    };
+    matches!(first, Mark::Upper(_))
 }
 
 /// The kind of the first statement.
-pub(crate) fn form_at(tokens: &[Token]) -> Form
-    ensures { result ≡ spec.form_of (marks tokens.now) }
+pub(crate) fn form_at(marks: &[Mark<'_>]) -> Form
+    ensures { result ≡ spec.form_of (seen_all marks.now) }
 {
-    let Some((first, rest)) = tokens.split_first() else {
+    let Some((first, rest)) = next(marks) else {
         return Form::Sentence;
     };
-    match mark_at(first) {
+    match first {
         Mark::Load(_) => Form::Alone,
         Mark::Choice(_) => Form::Alone,
         Mark::Keyword(_, _) => Form::Line,
@@ -69,34 +70,36 @@ fn line_rest(before: &Token, tokens: &[Token]) -> usize
     len
 }
 
-fn is_stop(token: &Token) -> bool
-    ensures { result ≡ spec.is_stop (mark_of token.now) }
+fn is_stop(mark: Mark<'_>) -> bool
+    ensures { result ≡ spec.is_stop (seen mark.entry) }
 {
-    matches!(mark_at(token), Mark::Sign(Sign::Stop))
+    matches!(mark, Mark::Sign(Sign::Stop))
 }
 
 /// Where the first stop is.
-fn stop_at(tokens: &[Token]) -> Option<usize>
-    ensures value { result ≡ position (λ t. spec.is_stop (mark_of t)) tokens.now }
-    ensures within { IfSome result (λ n. n < length tokens.now) }
+fn stop_at(marks: &[Mark<'_>]) -> Option<usize>
+    ensures value { result ≡ position (λ m. spec.is_stop (seen m)) marks.now }
+    ensures within { IfSome result (λ n. n < length marks.now) }
 {
-    tokens.iter().position(|token| is_stop(token))
+    marks.iter().position(|mark| is_stop(*mark))
 }
 
-/// How many tokens the sentence at the front has.
-fn sentence(tokens: &[Token]) -> usize
-    ensures value { result ≡ sentence_len tokens.now }
-    ensures within { result ≤ length tokens.now }
-    ensures moves { 0 < length tokens.now → 0 < result }
+/// How many marks the sentence at the front has.
+fn sentence(marks: &[Mark<'_>]) -> usize
+    ensures value { result ≡ sentence_len (seen_all marks.now) }
+    ensures within { result ≤ length marks.now }
+    ensures moves { 0 < length marks.now → 0 < result }
 {
-    match stop_at(tokens) {
+    match stop_at(marks) {
         Some(at) => at + 1,
-        None => tokens.len(),
+        None => marks.len(),
     }
 }
 
-/// How many tokens the first statement has.
-pub(crate) fn statement_len(tokens: &[Token]) -> usize
+/// How many tokens the first statement has, which is of this kind. The marks are those of the tokens.
+pub(crate) fn statement_len(form: Form, tokens: &[Token], marks: &[Mark<'_>]) -> usize
+    requires form { form ≡ spec.form_of (seen_all marks.now) }
+    requires marks { seen_all marks.now ≡ m.marks tokens.now }
     ensures value { result ≡ spec.statement_len tokens.now }
     ensures within { result ≤ length tokens.now }
     ensures moves { 0 < length tokens.now → 0 < result }
@@ -104,10 +107,10 @@ pub(crate) fn statement_len(tokens: &[Token]) -> usize
     let Some((first, rest)) = tokens.split_first() else {
         return 0;
     };
-    match form_at(tokens) {
+    match form {
         Form::Alone => 1,
         Form::Line => 1 + line_rest(first, rest),
-        Form::Sentence => sentence(tokens),
+        Form::Sentence => sentence(marks),
     }
 }
 
@@ -148,21 +151,19 @@ fn is_nesting(mark: Mark<'_>) -> bool
     }
 }
 
-/// Whether a sentence with these tokens is nested too deeply.
-pub(crate) fn is_deep(tokens: &[Token]) -> bool
-    ensures deep { result ≡ true → IsDeep (marks tokens.now) }
-    ensures flat { result ≡ false → IsDeep (marks tokens.now) → ⊥ }
+/// Whether a sentence with these marks is nested too deeply.
+pub(crate) fn is_deep(marks: &[Mark<'_>]) -> bool
+    ensures deep { result ≡ true → IsDeep (seen_all marks.now) }
+    ensures flat { result ≡ false → IsDeep (seen_all marks.now) → ⊥ }
 {
     let (mut opened, mut closed, mut nesting): (usize, usize, usize) = (0, 0, 0);
-    let mut rest = tokens;
-    'tokens: while let Some((token, behind)) = rest.split_first() {
-        opened += one_if(is_open(mark_at(token)));
-        closed += one_if(is_close(mark_at(token)));
-        nesting += one_if(is_nesting(mark_at(token)));
+    for mark in marks {
+        opened += one_if(is_open(*mark));
+        closed += one_if(is_close(*mark));
+        nesting += one_if(is_nesting(*mark));
         if opened > closed + 100 {
             return true;
         }
-        rest = behind;
     }
     nesting > 300
 }

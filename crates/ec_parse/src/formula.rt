@@ -1,6 +1,6 @@
 //! Formulas, read by descent.
-ghost use Rattle.std.specs.Prelude.{◌≡◌, ◌∷◌, [], ◌<◌, ◌≤◌, length, MatchOption, IfOk, None, Some, ℕ, List, false};
-ghost use Rattle.ec_parse.specs.Mark.{seen, seen_all};
+ghost use Rattle.std.specs.Prelude.{◌≡◌, ◌∷◌, ◌<◌, MatchOption, IfOk, None, Some, List, false};
+ghost use Rattle.ec_parse.specs.Mark.{seen_all};
 ghost use Rattle.ec_parse.specs.Mark as spec;
 ghost use Rattle.ec_parse.specs.Formulas.{IsComparison, IsAtom, IsUnary, IsScope, IsConjunction, IsDisjunction, IsImplication, IsFormula, joins, compared, behind, scope_of};
 ghost use Rattle.ec_parse.specs.Formulas as formulas;

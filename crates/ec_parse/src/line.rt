@@ -1,13 +1,12 @@
 //! Line statements, loads and options.
-ghost use Rattle.std.specs.Prelude.{List, ℕ, ◌≡◌, ◌≢◌, ◌∷◌, [], ◌≤◌, length, MatchOption, IfOk, None, Some, true, false, ℤ, pos, neg_ℤ};
+ghost use Rattle.std.specs.Prelude.{List, ℕ, ◌≡◌, ◌≢◌, ◌∷◌, [], MatchOption, None, Some, true, false, pos, neg_ℤ};
 ghost use Rattle.ec_syntax.specs.Written as written;
-ghost use Rattle.std.specs.List.{prefix_len};
 ghost use Rattle.ec_parse.specs.Mark.{seen, seen_all};
 ghost use Rattle.ec_parse.specs.Mark as spec;
 ghost use Rattle.ec_parse.specs.Lists.{IsName, AreParted, commas};
-ghost use Rattle.ec_parse.specs.Lines.{IsWhole, IsShape, IsSortItem, IsLine, IsAlone, lower_of};
+ghost use Rattle.ec_parse.specs.Lines.{IsWhole, IsShape, IsSortItem, IsLine, lower_of};
 ghost use Rattle.ec_parse.specs.Lines as lines;
-ghost use Rattle.ec_parse.specs.Reads.{Reads, Whole, Ending, free, word_of, words_of, item_of, items_of, shapes_of, whole_of};
+ghost use Rattle.ec_parse.specs.Reads.{Reads, Whole, Ending, free, words_of, item_of, items_of, shapes_of, whole_of};
 ghost use Rattle.ec_parse.specs.declared.mark.Keyword.TheVariants as Keyword;
 ghost use Rattle.ec_syntax.specs.View.{content_of, shape_of};
 

@@ -1,6 +1,6 @@
 //! Lists parted by commas.
-ghost use Rattle.std.specs.Prelude.{◌≡◌, ◌∷◌, [], ◌≤◌, length, MatchOption, IfOk, None, Some, ℕ, List};
-ghost use Rattle.ec_parse.specs.Mark.{seen, seen_all};
+ghost use Rattle.std.specs.Prelude.{◌≡◌, ◌∷◌, MatchOption, None, Some, ℕ, List};
+ghost use Rattle.ec_parse.specs.Mark.{seen_all};
 ghost use Rattle.ec_parse.specs.Mark as spec;
 ghost use Rattle.ec_parse.specs.Lists.{IsName, IsVariable, AreParted, commas};
 ghost use Rattle.ec_parse.specs.Reads.{Reads, free, word_of, words_of};

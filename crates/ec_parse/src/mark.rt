@@ -1,5 +1,5 @@
 //! What the rules of the grammar see of tokens.
-ghost use Rattle.std.specs.Prelude.{◌≡◌, ◌∷◌, [], ◌≤◌, ◌<◌, length, MatchOption, IfOk};
+ghost use Rattle.std.specs.Prelude.{◌≡◌, ◌∷◌, [], ◌<◌, MatchOption, IfOk};
 ghost use Rattle.ec_parse.specs.Mark.{sign_of, keyword_of, number_of, mark_of, marks, seen, seen_all, Lacks};
 ghost use Rattle.ec_parse.specs.Mark as spec;
 
@@ -70,29 +70,29 @@ fn sign_at(word: &[u8]) -> Option<Sign>
     ensures { result ≡ sign_of word.now }
 {
     match word {
-        b"<->" => Some(Sign::Iff),
-        b"->" => Some(Sign::Implies),
-        b"<=" => Some(Sign::AtMost),
-        b">=" => Some(Sign::AtLeast),
-        b"!=" => Some(Sign::Unequal),
-        b"[" => Some(Sign::OpenBracket),
-        b"]" => Some(Sign::CloseBracket),
-        b"{" => Some(Sign::OpenBrace),
-        b"}" => Some(Sign::CloseBrace),
-        b"(" => Some(Sign::Open),
-        b")" => Some(Sign::Close),
-        b"," => Some(Sign::Comma),
-        b"." => Some(Sign::Stop),
-        b":" => Some(Sign::Colon),
-        b"!" => Some(Sign::Not),
-        b"&" => Some(Sign::And),
-        b"|" => Some(Sign::Or),
-        b"=" => Some(Sign::Equal),
-        b"<" => Some(Sign::Less),
-        b">" => Some(Sign::More),
-        b"+" => Some(Sign::Plus),
-        b"-" => Some(Sign::Minus),
-        b"*" => Some(Sign::Times),
+        [b'('] => Some(Sign::Open),
+        [b')'] => Some(Sign::Close),
+        [b','] => Some(Sign::Comma),
+        [b'.'] => Some(Sign::Stop),
+        [b'['] => Some(Sign::OpenBracket),
+        [b']'] => Some(Sign::CloseBracket),
+        [b'{'] => Some(Sign::OpenBrace),
+        [b'}'] => Some(Sign::CloseBrace),
+        [b':'] => Some(Sign::Colon),
+        [b'!'] => Some(Sign::Not),
+        [b'&'] => Some(Sign::And),
+        [b'|'] => Some(Sign::Or),
+        [b'='] => Some(Sign::Equal),
+        [b'<'] => Some(Sign::Less),
+        [b'>'] => Some(Sign::More),
+        [b'+'] => Some(Sign::Plus),
+        [b'-'] => Some(Sign::Minus),
+        [b'*'] => Some(Sign::Times),
+        [b'-', b'>'] => Some(Sign::Implies),
+        [b'<', b'='] => Some(Sign::AtMost),
+        [b'>', b'='] => Some(Sign::AtLeast),
+        [b'!', b'='] => Some(Sign::Unequal),
+        [b'<', b'-', b'>'] => Some(Sign::Iff),
         _ => None,
     }
 }

@@ -1,6 +1,6 @@
 //! The statements of a file.
-ghost use Rattle.std.specs.Prelude.{◌≡◌, ◌≢◌, true, false, ◌∷◌, [], ◌≤◌, ◌<◌, length, MatchOption, List, ℕ, None, Some};
-ghost use Rattle.ec_parse.specs.Mark.{marks, seen, seen_all};
+ghost use Rattle.std.specs.Prelude.{◌≡◌, true, false, ◌∷◌, ◌<◌, MatchOption, List, ℕ, None, Some};
+ghost use Rattle.ec_parse.specs.Mark.{seen_all};
 ghost use Rattle.ec_parse.specs.Mark as spec;
 ghost use Rattle.ec_parse.specs.Statements.{Found, AreStatements, Answers, IsStopped, IsSentence, IsNested, Spells, ReadsContent, read};
 ghost use Rattle.ec_parse.specs.Reads.{Whole};
@@ -59,12 +59,12 @@ fn sentence(alloc: Global, marks: &[Mark<'_>]) -> Result<Content, Fault>
     Ok(Content::Sentence { label, tree })
 }
 
-fn is_nested(form: Form, tokens: &[Token]) -> bool
-    ensures nested { result ≡ true → IsNested form (marks tokens.now) }
-    ensures flat { result ≡ false → IsNested form (marks tokens.now) → ⊥ }
+fn is_nested(form: Form, marks: &[Mark<'_>]) -> bool
+    ensures nested { result ≡ true → IsNested form (seen_all marks.now) }
+    ensures flat { result ≡ false → IsNested form (seen_all marks.now) → ⊥ }
 {
     match form {
-        Form::Sentence => is_deep(tokens),
+        Form::Sentence => is_deep(marks),
         Form::Alone => false,
         Form::Line => false,
     }
@@ -80,20 +80,19 @@ fn spelled(alloc: Global, form: Form, marks: &[Mark<'_>]) -> Result<Content, Fau
     }
 }
 
-/// What the statement says that has these tokens, the first of which is `first`.
+/// What the statement says that has these marks, the first of which is that of `first`.
 fn content(
     alloc: Global,
     form: Form,
     first: &Token,
-    tokens: &[Token],
+    marks: &[Mark<'_>],
 ) -> Result<Content, ParseFault>
-    ensures { ReadsContent form first.now (marks tokens.now) result }
+    ensures { ReadsContent form first.now (seen_all marks.now) result }
 {
-    if is_nested(form, tokens) {
+    if is_nested(form, marks) {
         return Err(ParseFault::Deep { line: first.line });
     }
-    let found = marks_at(alloc, tokens)?;
-    match spelled(alloc, form, &found) {
+    match spelled(alloc, form, marks) {
         Ok(content) => Ok(content),
         Err(Fault::Memory) => Err(ParseFault::Memory),
         Err(Fault::Syntax) => {
@@ -113,16 +112,21 @@ fn content(
 pub fn statements(alloc: Global, tokens: &[Token]) -> Result<Vec<Statement>, ParseFault>
     ensures { Answers tokens.now (read result) }
 {
+    let marks = marks_at(alloc, tokens)?;
     let mut found = Vec::new(alloc);
-    let mut rest = tokens;
-    'statements: while let Some(first) = rest.first() {
-        let (statement, others) = rest.split_at(statement_len(rest));
-        let content = content(alloc, form_at(rest), first, statement)?;
+    let mut place = 0;
+    'statements: while let Some(first) = tokens.get(place) {
+        let (_, rest) = tokens.split_at(place);
+        let (_, ahead) = marks.split_at(place);
+        let form = form_at(ahead);
+        let len = statement_len(form, rest, ahead);
+        let (own, _) = ahead.split_at(len);
+        let content = content(alloc, form, first, own)?;
         found.push(Statement {
             line: first.line,
             content,
         })?;
-        rest = others;
+        place += len;
     }
     Ok(found)
 }

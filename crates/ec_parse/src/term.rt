@@ -1,5 +1,5 @@
 //! Terms, read by descent.
-ghost use Rattle.std.specs.Prelude.{◌≡◌, ◌∷◌, [], ◌≤◌, length, MatchOption, IfOk, None, Some};
+ghost use Rattle.std.specs.Prelude.{◌≡◌, ◌∷◌, MatchOption, IfOk, None, Some};
 ghost use Rattle.ec_parse.specs.Mark.{seen, seen_all};
 ghost use Rattle.ec_parse.specs.Mark as spec;
 ghost use Rattle.ec_parse.specs.Terms.{IsFactor, AreArguments, AreTerms, IsProduct, IsTerm, binds, variable_of};

@@ -1,4 +1,4 @@
-use Rattle.std.proofs.Common.{◌≡◌, ◌∙◌, ◌==◌, ap, sym, length, true, false, arith}
+use Rattle.std.proofs.Common.{◌≡◌, ◌∙◌, ap, sym}
 use Rattle.ec_parse.specs.Lines.{choice, ignored, first_word, after_word}
 use Rattle.ec_parse.proofs.LineSteps.{nonempty, empty_of, no_third}
 use Rattle.ec_parse.proofs.alone.choice.Goals as goal

@@ -1,6 +1,6 @@
 use Rattle.std.proofs.Common.{arith, ap, length}
 use Rattle.std.proofs.lemmas.Result.{err_from_is_err_and}
-use Rattle.ec_parse.specs.Formulas.{negation, group, every, some, atomic, scope, plain, implication}
+use Rattle.ec_parse.specs.Formulas.{scope}
 use Rattle.ec_parse.proofs.FormulaSteps as steps
 use Rattle.ec_parse.proofs.formula.+formulas.Goals as goal
 

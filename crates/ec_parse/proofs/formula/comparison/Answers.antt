@@ -1,4 +1,4 @@
-use Rattle.std.proofs.Common.{◌≡◌, sym, arith, length, ap}
+use Rattle.std.proofs.Common.{sym, arith, length, ap}
 use Rattle.std.proofs.lemmas.Result.{err_from_is_err_and}
 use Rattle.ec_parse.specs.Mark.{seen_all}
 use Rattle.ec_parse.specs.Formulas.{comparison}

@@ -1,7 +1,6 @@
 use Rattle.std.proofs.Common.{length}
 use Rattle.ec_syntax.specs.View.{shape_of}
 use Rattle.ec_parse.specs.Mark.{seen_all}
-use Rattle.ec_parse.specs.Reads.{item_of}
 use Rattle.ec_parse.specs.Lines.{IsShape}
 use Rattle.ec_parse.proofs.Parted.{Parts}
 use Rattle.ec_parse.proofs.line.shapes.Given as goal

@@ -1,8 +1,7 @@
 use Rattle.std.proofs.lemmas.Result.{err_from_is_err_and}
-use Rattle.ec_syntax.specs.View.{shape_of}
 use Rattle.ec_parse.specs.Reads.{item_of}
 use Rattle.ec_parse.specs.Lines.{IsSortItem}
-use Rattle.ec_parse.proofs.Parted.{fail_first, parts_begin, parts_more, parts_fail, parts_end, stops_commas}
+use Rattle.ec_parse.proofs.Parted.{fail_first, parts_begin, parts_more, parts_fail, stops_commas}
 use Rattle.ec_parse.proofs.LineSteps.{item_one, items_end}
 use Rattle.ec_parse.proofs.line.sort_items.Goals as goal
 

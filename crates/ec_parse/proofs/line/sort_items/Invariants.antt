@@ -1,5 +1,4 @@
 use Rattle.std.proofs.Common.{length}
-use Rattle.ec_syntax.specs.View.{shape_of}
 use Rattle.ec_parse.specs.Mark.{seen_all}
 use Rattle.ec_parse.specs.Reads.{item_of}
 use Rattle.ec_parse.specs.Lines.{IsSortItem}
