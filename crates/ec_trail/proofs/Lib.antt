@@ -1,3 +1,4 @@
 pub mod TrailLemmas
 pub mod BackTo
 pub mod Lookup
+pub mod Values

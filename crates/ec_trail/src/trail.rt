@@ -1,6 +1,6 @@
 //! The literals that a search has made true, in order.
 
-ghost use Rattle.std.specs.Prelude.{◌≡◌, ℕ, [], ◌∷◌, ◌++◌, ◌+◌, ◌-◌, ◌^◌, ◌<◌, ◌≤◌, length, ◌↔◌, IfOk, Option, None, Some, IfSome, IsNone, slice_index_or, slice_get};
+ghost use Rattle.std.specs.Prelude.{◌≡◌, ◌≢◌, ℕ, [], ◌∷◌, ◌++◌, ◌+◌, ◌-◌, ◌^◌, ◌<◌, ◌≤◌, true, length, ◌↔◌, IfOk, Option, None, Some, IfSome, IfNone, IsNone, slice_index_or, slice_get};
 ghost use Rattle.ec_clause.specs.Truth.{literal_value, with_true};
 
 use ec_clause::assign::Assign;
@@ -143,22 +143,17 @@ impl Trail {
         }
     }
 
-    /// The place at which the variable's entry stands, from 0.
-    pub fn place_of(&self, variable: u32) -> Option<u32>
-        requires { variable ≤ self.now.variables }
+    /// The place, from 0, at which the literal was made true; none where it is not true.
+    pub fn place_of(&self, lit: Lit) -> Option<u32>
+        requires { lit.variable ≤ self.now.variables }
         ensures within { IfSome result (λ i. i < length self.now.entries) }
-        ensures there { IfSome result (λ i. IfSome (slice_get self.now.entries i) (λ e. e.lit.variable ≡ variable)) }
-        ensures trail { IsTrail self.now.variables self.now.entries }
-        ensures none { IsNone result ↔ (slice_index_or (truth_of self.now) variable None ≡ None) }
+        ensures there { IfSome result (λ i. IfSome (slice_get self.now.entries i) (λ e. e.lit ≡ lit)) }
+        ensures none { IfNone result (literal_value (truth_of self.now) lit ≢ Some true) }
     {
-        let place = self.places[variable as usize];
-        if place as usize >= self.entries.len() {
-            return None;
+        match self.value(lit) {
+            Some(true) => Some(self.places[lit.variable() as usize]),
+            Some(false) | None => None,
         }
-        if self.entries[place as usize].lit.variable() != variable {
-            return None;
-        }
-        Some(place)
     }
 
     fn entry_of(&self, variable: u32) -> Option<Entry>

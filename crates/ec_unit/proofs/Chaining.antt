@@ -9,22 +9,22 @@ use Rattle.ec_clause.specs.Literal.{Literal}
 use Rattle.ec_unit.specs.declared.chains.Chain.{Chain}
 use Rattle.ec_unit.specs.declared.chains.Cell.{Cell}
 use Rattle.ec_unit.specs.Chained.{index_of, no_chain, no_cell, chain_at, lit_at, next_at, chain_len, IsChain, IsOn, IsWalking}
-use Rattle.ec_unit.proofs.Places.{same_literal}
+use Rattle.ec_trail.proofs.Values.{same_literal}
 
 -- a function with one value changed
 abbrev pub with : {A : Type 0} → (ℕ → A) → ℕ → A → ℕ → A
 with f p v c = cond (c == p) v (f c)
 
-with_same : {A : Type 0} (f : ℕ → A) (p : ℕ) (v : A) (c : ℕ) → c ≡ p → with f p v c ≡ v
+pub with_same : {A : Type 0} (f : ℕ → A) (p : ℕ) (v : A) (c : ℕ) → c ≡ p → with f p v c ≡ v
 with_same f p v c e = cond-true (c == p) v (f c) (eq-eqb c p e)
 
-with_other : {A : Type 0} (f : ℕ → A) (p : ℕ) (v : A) (c : ℕ) → c ≢ p → with f p v c ≡ f c
+pub with_other : {A : Type 0} (f : ℕ → A) (p : ℕ) (v : A) (c : ℕ) → c ≢ p → with f p v c ≡ f c
 with_other f p v c ne = elim (cases_Bool (c == p)) [
   | inl t ↦ absurd (ne (eqb-true c p t))
   | inr f' ↦ cond-false (c == p) v (f c) f'
 ]
 
-clash : (b : Bool) → b ≡ true → b ≡ false → ⊥
+pub clash : (b : Bool) → b ≡ true → b ≡ false → ⊥
 clash true t f = cc
 clash false t f = cc
 
@@ -48,7 +48,7 @@ pub index_below : (n : ℕ) (l : Literal) → l.variable ≤ n → index_of l < 
 index_below n l h = let s : cond l.positive 1 0 ≤ 1 = sign_small l.positive in omega (arith, s)
 
 -- a chain is the same where its members and their links are
-chain_frame : (cells cells' : List Cell) (m m' : ℕ → Type 0) (rank rank' : ℕ → ℕ) (head len : ℕ) → ((c : ℕ) → m' c → m c) → ((c : ℕ) → m c → m' c) → ((c : ℕ) → m c → next_at cells' c ≡ next_at cells c) → ((c : ℕ) → m c → rank' c ≡ rank c) → IsChain cells m rank head len → IsChain cells' m' rank' head len
+pub chain_frame : (cells cells' : List Cell) (m m' : ℕ → Type 0) (rank rank' : ℕ → ℕ) (head len : ℕ) → ((c : ℕ) → m' c → m c) → ((c : ℕ) → m c → m' c) → ((c : ℕ) → m c → next_at cells' c ≡ next_at cells c) → ((c : ℕ) → m c → rank' c ≡ rank c) → IsChain cells m rank head len → IsChain cells' m' rank' head len
 chain_frame cells cells' m m' rank rank' head len back forth next same h = record {
   below = λ c is. (let o = back c is in omega (arith, h.below c o, same c o));
   first = λ some. (let f = h.first some in (forth head f.0, omega (arith, f.1, same head f.0)));
@@ -135,7 +135,7 @@ lit_here cells place cell lt = ap (λ (x : Cell). x.lit) (get_or-set_same cells 
 next_here : (cells : List Cell) (place : ℕ) (cell : Cell) → place < length cells → next_at (set cells place cell) place ≡ cell.next
 next_here cells place cell lt = ap (λ (x : Cell). x.next) (get_or-set_same cells place cell no_cell lt)
 
-some_same : {A : Type 0} {a b : A} → Some a ≡ Some b → a ≡ b
+pub some_same : {A : Type 0} {a b : A} → Some a ≡ Some b → a ≡ b
 some_same e = cc
 
 -- a watch that is in no chain put onto a literal: what becomes of each chain
@@ -230,16 +230,16 @@ step_record variables chains cells upto a x place more left chain cell one w ran
       ];
     }
 
--- and no other leaves what is ahead
-pub walk_step : (variables : ℕ) (chains : List Chain) (cells : List Cell) (upto : ℕ) (a x : Literal) (place more left : ℕ) (chain : Chain) (cell : Cell) → more ≡ left + 1 → (w : IsWalking variables chains cells upto a place more) → x.variable ≤ variables → chain ≡ record { head = place; len = (chain_at chains x).len + 1 } → cell ≡ record { lit = Some x; next = (chain_at chains x).head } → (v : IsWalking variables (set chains (index_of x) chain) (set cells place cell) upto a (next_at cells place) left) × ((c : ℕ) → c ≢ place → v.rest c ≡ w.rest c)
+-- and the others keep their ranks
+pub walk_step : (variables : ℕ) (chains : List Chain) (cells : List Cell) (upto : ℕ) (a x : Literal) (place more left : ℕ) (chain : Chain) (cell : Cell) → more ≡ left + 1 → (w : IsWalking variables chains cells upto a place more) → x.variable ≤ variables → chain ≡ record { head = place; len = (chain_at chains x).len + 1 } → cell ≡ record { lit = Some x; next = (chain_at chains x).head } → (v : IsWalking variables (set chains (index_of x) chain) (set cells place cell) upto a (next_at cells place) left) × ((c : ℕ) → c ≢ place → v.on c ≡ w.on c) × ((c : ℕ) → c ≢ place → v.rank c ≡ w.rank c)
 walk_step variables chains cells upto a x place more left chain cell one w range is_chain is_cell =
-    (step_record variables chains cells upto a x place more left chain cell one w range is_chain is_cell, λ c ne. with_other w.rest place false c ne)
+    (step_record variables chains cells upto a x place more left chain cell one w range is_chain is_cell, λ c ne. with_other w.on place true c ne, λ c ne. with_other w.rank place (chain_at chains x).len c ne)
 
 -- where nothing is left of a walk, nothing is ahead
-none_ahead : (variables : ℕ) (chains : List Chain) (cells : List Cell) (upto : ℕ) (a : Literal) (head : ℕ) (w : IsWalking variables chains cells upto a head 0) (c : ℕ) → w.rest c ≡ true → ⊥
+pub none_ahead : (variables : ℕ) (chains : List Chain) (cells : List Cell) (upto : ℕ) (a : Literal) (head : ℕ) (w : IsWalking variables chains cells upto a head 0) (c : ℕ) → w.rest c ≡ true → ⊥
 none_ahead variables chains cells upto a head w c is = omega (arith, w.ahead.below c is)
 
-nothing_ahead : (cells : List Cell) (rank : ℕ → ℕ) (head : ℕ) → IsChain cells (λ (c : ℕ). false ≡ true) rank head 0
+pub nothing_ahead : (cells : List Cell) (rank : ℕ → ℕ) (head : ℕ) → IsChain cells (λ (c : ℕ). false ≡ true) rank head 0
 nothing_ahead cells rank head = record {
   below = λ c is. absurd (clash false is refl);
   first = λ some. absurd (omega arith);
@@ -328,11 +328,11 @@ abbrev pub is_lit : Option Literal → Literal → Bool
 is_lit None l = false
 is_lit (Some k) l = index_of k == index_of l
 
-is_lit-true : (o : Option Literal) (l : Literal) → is_lit o l ≡ true → o ≡ Some l
+pub is_lit-true : (o : Option Literal) (l : Literal) → is_lit o l ≡ true → o ≡ Some l
 is_lit-true None l h = cc
 is_lit-true (Some k) l h = ap Some (index_apart k l (eqb-true (index_of k) (index_of l) h))
 
-is_lit-same : (o : Option Literal) (l : Literal) → o ≡ Some l → is_lit o l ≡ true
+pub is_lit-same : (o : Option Literal) (l : Literal) → o ≡ Some l → is_lit o l ≡ true
 is_lit-same None l h = cc
 is_lit-same (Some k) l h = eq-eqb (index_of k) (index_of l) (ap index_of (some_same h))
 
@@ -358,68 +358,6 @@ and_not : (a b : Bool) → (a && b) ≡ true → (a && not b) ≡ false
 and_not true true h = refl
 and_not true false h = cc
 and_not false b h = cc
-
--- a walk over the watches of a literal begins
-pub walk_start : (variables : ℕ) (chains : List Chain) (cells : List Cell) (upto : ℕ) (a b : Literal) (head : ℕ) → IsWalking variables chains cells upto b head 0 → a.variable ≤ variables → IsWalking variables (set chains (index_of a) no_chain) cells upto a (chain_at chains a).head (chain_at chains a).len
-walk_start variables chains cells upto a b head w range =
-    let index : index_of a < length chains = omega (arith, index_below variables a range, w.size) in
-    let chains' = set chains (index_of a) no_chain in
-    let is_a : ℕ → Bool = λ c. is_lit (lit_at cells c) a in
-    let sum = sum_by-set chain_len chains (index_of a) no_chain no_chain index in
-    record {
-      on = λ c. w.on c && not (is_a c);
-      rest = λ c. w.on c && is_a c;
-      rank = w.rank;
-      size = length-set chains (index_of a) no_chain ∙ w.size;
-      fits = w.fits;
-      total = omega (arith, w.total, sum);
-      each = λ l lr. elim (cases_eq (index_of l) (index_of a)) [
-        | inl e ↦ (
-            let same : l ≡ a = index_apart l a e in
-            let at : chain_at chains' l ≡ no_chain = ap (λ i. get_or chains' i no_chain) e ∙ get_or-set_same chains (index_of a) no_chain no_chain index in
-            let none : (c : ℕ) → IsOn cells (λ c. w.on c && not (is_a c)) l c → ⊥ = λ c is. (
-            let p = both_true (w.on c) (not (is_a c)) is.0 in
-            clash (is_a c) (is_lit-same (lit_at cells c) a (is.1 ∙ ap Some same)) (not_true (is_a c) p.1)) in
-            subst (λ (y : Chain). IsChain cells (IsOn cells (λ c. w.on c && not (is_a c)) l) w.rank y.head y.len) (sym at) (record {
-              below = λ c is. absurd (none c is);
-              first = λ some. absurd (omega arith);
-              next = λ c is pos. absurd (none c is);
-              apart = λ c d is js e. absurd (none c is);
-            }))
-        | inr ne ↦ (
-            let at : chain_at chains' l ≡ chain_at chains l = get_or-set_other chains (index_of a) (index_of l) no_chain no_chain ne in
-            let framed = chain_frame cells cells (IsOn cells w.on l) (IsOn cells (λ c. w.on c && not (is_a c)) l) w.rank w.rank (chain_at chains l).head (chain_at chains l).len
-            (λ c is. ((both_true (w.on c) (not (is_a c)) is.0).0, is.1))
-            (λ c is. (
-              both_from (w.on c) (not (is_a c)) is.0 (not_from (is_a c) (elim (cases_Bool (is_a c)) [
-                | inl t ↦ absurd (ne (ap index_of (some_same (sym is.1 ∙ is_lit-true (lit_at cells c) a t))))
-                | inr f ↦ f
-              ])),
-              is.1,
-            ))
-            (λ c is. refl)
-            (λ c is. refl)
-            (w.each l lr) in
-            subst (λ (y : Chain). IsChain cells (IsOn cells (λ c. w.on c && not (is_a c)) l) w.rank y.head y.len) (sym at) framed)
-      ];
-      ahead = chain_frame cells cells (IsOn cells w.on a) (λ c. (w.on c && is_a c) ≡ true) w.rank w.rank (chain_at chains a).head (chain_at chains a).len
-          (λ c is. (let p = both_true (w.on c) (is_a c) is in (p.0, is_lit-true (lit_at cells c) a p.1)))
-          (λ c is. both_from (w.on c) (is_a c) is.0 (is_lit-same (lit_at cells c) a is.1))
-          (λ c is. refl)
-          (λ c is. refl)
-          (w.each a range);
-      of_walked = λ c is. is_lit-true (lit_at cells c) a (both_true (w.on c) (is_a c) is).1;
-      rest_below = λ c is. w.on_below c (both_true (w.on c) (is_a c) is).0;
-      on_below = λ c is. w.on_below c (both_true (w.on c) (not (is_a c)) is).0;
-      loose = λ c is. and_not (w.on c) (is_a c) is;
-      all = λ c l lt is. elim (w.all c l lt is) [
-        | inl o ↦ elim (cases_Bool (is_a c)) [
-          | inl t ↦ inr (both_from (w.on c) (is_a c) o t)
-          | inr f ↦ inl (both_from (w.on c) (not (is_a c)) o (not_from (is_a c) f))
-        ]
-        | inr r ↦ absurd (none_ahead variables chains cells upto b head w c r)
-      ];
-    }
 
 -- watches added behind the others
 pub walk_grow : (variables : ℕ) (chains : List Chain) (cells more : List Cell) (upto : ℕ) (a : Literal) (head : ℕ) → IsWalking variables chains cells upto a head 0 → IsWalking variables chains (cells ++ more) upto a head 0

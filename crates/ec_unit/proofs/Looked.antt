@@ -14,7 +14,7 @@ use Rattle.ec_trail.proofs.BackTo.{some_entry}
 use Rattle.ec_unit.specs.declared.seen.Seen.{Seen}
 use Rattle.ec_unit.specs.Leaning.{no_seen, seen_at, Follows, Grows, HasTrue}
 use Rattle.ec_unit.proofs.Growing.{has_true_more}
-use Rattle.ec_unit.proofs.Places.{true_where}
+use Rattle.ec_trail.proofs.Values.{true_where}
 use Rattle.ec_unit.specs.Chained.{index_of}
 use Rattle.ec_unit.proofs.Adding.{adds_none, adds_push}
 use Rattle.ec_unit.proofs.Chaining.{index_apart}

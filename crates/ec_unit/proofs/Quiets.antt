@@ -16,7 +16,8 @@ use Rattle.ec_unit.specs.Watching.{IsWatched, IsSafe, both}
 use Rattle.ec_unit.specs.Chained.{lit_at}
 use Rattle.ec_unit.specs.Leaning.{Follows, HasTrue, IsHeld, AreOf}
 use Rattle.ec_unit.specs.Working.{IsWorking, AllSafe, ShortHold}
-use Rattle.ec_unit.proofs.Places.{true_from_false, true_where}
+use Rattle.ec_trail.proofs.Values.{true_where}
+use Rattle.ec_unit.proofs.Places.{true_from_false}
 use Rattle.ec_unit.proofs.Looked.{IfShort}
 use Rattle.ec_unit.proofs.Visits.{watched_is, seen_true}
 use Rattle.ec_unit.proofs.Enchains.{pair_of}

@@ -1,6 +1,6 @@
 -- one watch after the other is walked over
-use Rattle.std.proofs.Common.{◌≡◌, ◌≢◌, ℕ, zero, suc, ◌+◌, ◌-◌, ◌*◌, ◌<◌, ◌≤◌, Bool, true, false, List, [], ◌∷◌, Option, Some, None, length, map, get_or, set, refl, sym, ap, ◌∙◌, subst, inl, inr, arith}
-use Rattle.std.proofs.lemmas.Bool.{cases_lt, cases_eq, cases_Bool}
+use Rattle.std.proofs.Common.{◌≡◌, ◌≢◌, ℕ, zero, suc, ◌+◌, ◌-◌, ◌*◌, ◌<◌, ◌≤◌, true, false, List, [], ◌∷◌, Option, Some, None, length, map, get_or, set, refl, sym, ap, ◌∙◌, subst, inl, inr, arith}
+use Rattle.std.proofs.lemmas.Bool.{cases_lt, cases_eq}
 use Rattle.std.proofs.lemmas.List.{length-set, length-map, get_or-set_same, get_or-set_other, get_or_default}
 use Rattle.std.specs.Prelude.{IfSome, Contains, is_some, vec_capacity}
 use Rattle.ec_clause.specs.Literal.{Literal, opposite}
@@ -15,13 +15,14 @@ use Rattle.ec_unit.specs.declared.table.Table.{Table}
 use Rattle.ec_unit.specs.declared.visit.Walk.{Walk}
 use Rattle.ec_unit.specs.Settling.{IsFalseAt}
 use Rattle.ec_unit.specs.Watching.{IsWatched, both, watched_at}
-use Rattle.ec_unit.specs.Chained.{index_of, no_cell, no_chain, chain_at, lit_at, next_at, IsWalking}
+use Rattle.ec_unit.specs.Chained.{index_of, no_cell, no_chain, chain_at, lit_at, next_at, IsOn, IsBehind, Unlinks}
 use Rattle.ec_unit.specs.Leaning.{Follows, Grows, Leans, IsHeld, AreHeld, AreOf, seen_at, no_seen}
-use Rattle.ec_unit.specs.Working.{IsWorking, watched_of, cell_lit}
+use Rattle.ec_unit.specs.Working.{IsWorking, AreChained, watched_of, cell_lit}
 use Rattle.ec_unit.specs.Visiting.{IsVisiting, IsOther}
 use Rattle.ec_unit.proofs.Places.{true_from, false_from_true, opposite_twice}
 use Rattle.ec_unit.proofs.Growing.{are_held_more, leans_more, held_none}
-use Rattle.ec_unit.proofs.Chaining.{index_below, walk_step, walk_start, walk_any}
+use Rattle.ec_unit.proofs.Chaining.{index_apart, index_below, none_ahead}
+use Rattle.ec_unit.proofs.Unlinking.{has_left, moved_at, behind_moved}
 
 -- what is seen of the cells
 watch_lit : (cells : List Cell) (i : ℕ) → get_or (map cell_lit cells) i None ≡ lit_at cells i
@@ -99,7 +100,7 @@ working_more c t u old new w same room grows follows variables =
     })
 
 -- so it does while a walk stands
-pub visiting_more : (c : ClauseList) (t u : Table) (old new : TrailList) (walk : Walk) → IsVisiting c t old walk None → u ≡ record t { seen = u.seen } → vec_capacity u.seen ≡ vec_capacity t.seen → Grows t.seen.items u.seen.items → Follows u.seen.items new.entries → new.variables ≡ old.variables → IsVisiting c u new walk None
+pub visiting_more : (c : ClauseList) (t u : Table) (old new : TrailList) (walk : Walk) → IsVisiting c t old walk None → u ≡ record t { seen = u.seen; chains = record t.chains { starts = u.chains.starts } } → vec_capacity u.seen ≡ vec_capacity t.seen → Grows t.seen.items u.seen.items → Follows u.seen.items new.entries → new.variables ≡ old.variables → IsVisiting c u new walk None
 visiting_more c t u old new walk v same room grows follows variables =
     subst (λ (x : Table). IsVisiting c x new walk None) (sym same) (record {
       working = record {
@@ -118,6 +119,8 @@ visiting_more c t u old new walk v same room grows follows variables =
       range = v.range;
       is_false = grows.lits t.worked v.here ∙ v.is_false;
       walking = v.walking;
+      ahead = v.ahead;
+      behind = v.behind;
       kept = λ none n a b l of_ below is rest other. leans_more t.seen.items u.seen.items l t.worked grows (v.kept none n a b l of_ below is rest other);
       found = tt;
     })
@@ -148,62 +151,66 @@ working_lits c t u trail w same size lits =
       held = λ n a b k l of_ below is_k is_l. w.held n a b k l of_ below (sym (lits a) ∙ is_k) (sym (lits b) ∙ is_l);
     })
 
--- a walk that has taken a watch out, at these chains
-abbrev pub Stepped : ℕ → ℕ → (ℕ → Bool) → ℕ → ℕ → List Chain → List Cell → Literal → ℕ → Type 0
-Stepped variables upto rest place left chains cells lit head = (v : IsWalking variables chains cells upto lit head left) × ((i : ℕ) → i ≢ place → v.rest i ≡ rest i)
-
-stepped_at : (variables upto : ℕ) (rest : ℕ → Bool) (place left : ℕ) (chains chains' : List Chain) (cells cells' : List Cell) (lit lit' : Literal) (head head' : ℕ) → chains' ≡ chains → cells' ≡ cells → lit' ≡ lit → head' ≡ head → Stepped variables upto rest place left chains cells lit head → Stepped variables upto rest place left chains' cells' lit' head'
-stepped_at variables upto rest place left chains chains' cells cells' lit lit' head head' e f g h s =
-    subst (λ x. Stepped variables upto rest place left chains' cells' lit' x) (sym h)
-    (subst (λ x. Stepped variables upto rest place left chains' cells' x head) (sym g)
-    (subst (λ x. Stepped variables upto rest place left chains' x lit head) (sym f)
-    (subst (λ x. Stepped variables upto rest place left x cells lit head) (sym e) s)))
+-- a watch of the literal is in its chain
+on_chain : (c : ClauseList) (t : Table) (trail : TrailList) (walk : Walk) (conflict : Option ℕ) (v : IsVisiting c t trail walk conflict) (n e f : ℕ) → AreOf n e f → n ≤ t.chained → lit_at t.chains.cells.items e ≡ Some walk.lit → v.walking.on e ≡ true
+on_chain c t trail walk conflict v n e f of_ below is =
+    let lt : e < 2 * t.chained = elim of_.1 [ inl q ↦ omega (arith, q.0, of_.0, below) | inr q ↦ omega (arith, q.1, of_.0, below) ] in
+    elim (v.walking.all e walk.lit lt is) [
+      | inl o ↦ o
+      | inr r ↦ absurd (none_ahead t.variables t.chains.chains.items t.chains.cells.items (2 * t.chained) no_seen.lit 0 v.walking e r)
+    ]
 
 -- the next watch stays on its literal
-pub visiting_stay : (c : ClauseList) (t u : Table) (trail : TrailList) (walk next : Walk) (conflict found : Option ℕ) (chain : Chain) (cell : Cell) → IsVisiting c t trail walk conflict → u ≡ record t { chains = u.chains } → next.lit ≡ walk.lit → next.head ≡ next_at t.chains.cells.items walk.head → walk.left ≡ next.left + 1 → chain ≡ record { head = walk.head; len = (chain_at t.chains.chains.items walk.lit).len + 1 } → cell ≡ record { lit = Some walk.lit; next = (chain_at t.chains.chains.items walk.lit).head } → u.chains.chains.items ≡ set t.chains.chains.items (index_of walk.lit) chain → u.chains.cells.items ≡ set t.chains.cells.items walk.head cell → (found ≡ None → conflict ≡ None) → (found ≡ None → (n b : ℕ) (l : Literal) → AreOf n walk.head b → lit_at t.chains.cells.items b ≡ Some l → Leans t.seen.items l t.worked) → IfSome found (IsFalseAt c (truth_of trail)) → IsVisiting c u trail next found
-visiting_stay c t u trail walk next conflict found chain cell v same lit head left is_chain is_cell chains cells before here is_found =
-    let place = walk.head in
-    let first = v.walking.ahead.first (omega (arith, left)) in
-    let at = v.walking.of_walked place first.0 in
-    let fits : place < length t.chains.cells.items = omega (arith, v.walking.rest_below place first.0, v.walking.fits) in
-    let lits : (i : ℕ) → lit_at u.chains.cells.items i ≡ lit_at t.chains.cells.items i = λ i. ap (λ (xs : List Cell). lit_at xs i) cells ∙ elim (cases_eq i place) [
-      | inl e ↦ ap (lit_at (set t.chains.cells.items place cell)) e ∙ ap (λ (x : Cell). x.lit) (get_or-set_same t.chains.cells.items place cell no_cell fits ∙ is_cell) ∙ sym at ∙ ap (lit_at t.chains.cells.items) (sym e)
-      | inr ne ↦ ap (λ (x : Cell). x.lit) (get_or-set_other t.chains.cells.items place i cell no_cell ne)
-    ] in
-    let working = working_lits c t u trail v.working same (ap length cells ∙ length-set t.chains.cells.items place cell) lits in
-    let step = walk_step t.variables t.chains.chains.items t.chains.cells.items (2 * t.chained) walk.lit walk.lit place walk.left next.left chain cell left v.walking v.range is_chain is_cell in
-    let stepped = stepped_at t.variables (2 * t.chained) v.walking.rest place next.left (set t.chains.chains.items (index_of walk.lit) chain) u.chains.chains.items (set t.chains.cells.items place cell) u.chains.cells.items walk.lit next.lit (next_at t.chains.cells.items place) next.head chains cells lit head step in
-    subst (λ (x : Table). IsVisiting c x trail next found) (sym same) (record {
-      working = subst (λ (x : Table). IsWorking c x trail) same working;
+pub visiting_stay : (c : ClauseList) (t : Table) (trail : TrailList) (walk : Walk) (conflict found : Option ℕ) (head left : ℕ) → IsVisiting c t trail walk conflict → head ≡ next_at t.chains.cells.items walk.head → walk.left ≡ left + 1 → (found ≡ None → conflict ≡ None) → (found ≡ None → (n b : ℕ) (l : Literal) → AreOf n walk.head b → lit_at t.chains.cells.items b ≡ Some l → Leans t.seen.items l t.worked) → IfSome found (IsFalseAt c (truth_of trail)) → IsVisiting c t trail (record { lit = walk.lit; last = Some walk.head; head = head; left = left }) found
+visiting_stay c t trail walk conflict found head left v is_head one before here is_found =
+    let w = v.walking in
+    let a = walk.lit in
+    let o = v.ahead (omega (arith, one)) in
+    let chain = w.each a v.range in
+    record {
+      working = v.working;
       all = v.all;
       here = v.here;
-      range = omega (arith, v.range, ap (λ (l : Literal). l.variable) lit);
-      is_false = v.is_false ∙ ap opposite (sym lit);
-      walking = stepped.0;
-      kept = λ none n a b l of_ below is_a rest is_b. elim (cases_eq a place) [
-        | inl e ↦ here none n b l (subst (λ i. AreOf n i b) e of_) (sym (lits b) ∙ is_b)
-        | inr ne ↦ v.kept (before none) n a b l of_ below (sym (lits a) ∙ is_a ∙ ap Some lit) (sym (stepped.1 a ne) ∙ rest) (sym (lits b) ∙ is_b)
+      range = v.range;
+      is_false = v.is_false;
+      walking = w;
+      ahead = λ some. (
+          let n = chain.next walk.head o.0 (omega (arith, o.1, one)) in
+          (subst (IsOn t.chains.cells.items w.on a) (sym is_head) n.0, omega (arith, ap w.rank is_head, n.1, o.1, one)));
+      behind = (o.0, omega (arith, o.1, one), λ some. sym is_head);
+      kept = λ none n e f l of_ below is_e le is_f. elim (cases_eq e walk.head) [
+        | inl same ↦ here none n f l (subst (λ i. AreOf n i f) same of_) is_f
+        | inr ne ↦ (
+            let on = on_chain c t trail walk conflict v n e f of_ below is_e in
+            let ne' : w.rank e ≢ w.rank walk.head = λ r. ne (chain.apart e walk.head (on, is_e) o.0 r) in
+            v.kept (before none) n e f l of_ below is_e (omega (arith, le, ne', o.1, one)) is_f)
       ];
       found = is_found;
-    })
+    }
 
 some_set : (a : Option Literal) (x y : Literal) (o : Option Literal) → o ≡ Some x → a ≡ Some y → is_some a ≡ is_some o
 some_set a x y o e f = ap is_some f ∙ ap is_some (sym e)
 
 -- the next watch moves to a literal that is not false
-pub visiting_move : (c : ClauseList) (t u : Table) (trail : TrailList) (walk next : Walk) (chain : Chain) (cell : Cell) (number twin : ℕ) (x other : Literal) → IsTrail trail.variables trail.entries → IsVisiting c t trail walk None → u ≡ record t { chains = u.chains } → next.lit ≡ walk.lit → next.head ≡ next_at t.chains.cells.items walk.head → walk.left ≡ next.left + 1 → chain ≡ record { head = walk.head; len = (chain_at t.chains.chains.items x).len + 1 } → cell ≡ record { lit = Some x; next = (chain_at t.chains.chains.items x).head } → u.chains.chains.items ≡ set t.chains.chains.items (index_of x) chain → u.chains.cells.items ≡ set t.chains.cells.items walk.head cell → x.variable ≤ t.variables → AreOf number walk.head twin → lit_at t.chains.cells.items twin ≡ Some other → IsOther (truth_of trail) (clause_at c number) other x → IsVisiting c u trail next None
-visiting_move c t u trail walk next chain cell number twin x other good v same lit head left is_chain is_cell chains cells range of_place is_other to =
+pub visiting_move : (c : ClauseList) (t u : Table) (trail : TrailList) (walk : Walk) (chains' : List Chain) (cells' : List Cell) (chain : Chain) (cell : Cell) (number twin : ℕ) (x other : Literal) (next left' : ℕ) → IsTrail trail.variables trail.entries → IsVisiting c t trail walk None → u ≡ record t { chains = u.chains } → next ≡ next_at t.chains.cells.items walk.head → walk.left ≡ left' + 1 → Unlinks walk.last t.chains.chains.items t.chains.cells.items walk.lit walk.head chains' cells' → chain ≡ record { head = walk.head; len = (chain_at chains' x).len + 1 } → cell ≡ record { lit = Some x; next = (chain_at chains' x).head } → u.chains.chains.items ≡ set chains' (index_of x) chain → u.chains.cells.items ≡ set cells' walk.head cell → x.variable ≤ t.variables → AreOf number walk.head twin → lit_at t.chains.cells.items twin ≡ Some other → IsOther (truth_of trail) (clause_at c number) other x → IsVisiting c u trail (record { lit = walk.lit; last = walk.last; head = next; left = left' }) None
+visiting_move c t u trail walk chains' cells' chain cell number twin x other next left' good v same is_next one unlinks is_chain is_cell chains cells range of_place is_other to =
     let place = walk.head in
     let a = walk.lit in
+    let w = v.walking in
     let old = t.chains.cells.items in
     let new = u.chains.cells.items in
-    let first = v.walking.ahead.first (omega (arith, left)) in
-    let at = v.walking.of_walked place first.0 in
-    let below' = v.walking.rest_below place first.0 in
-    let fits : place < length old = omega (arith, below', v.walking.fits) in
+    let o = v.ahead (omega (arith, one)) in
+    let at = o.0.1 in
+    let below' = w.on_below place o.0.0 in
+    let whole = w.each a v.range in
+    let behind = subst (λ n. IsBehind w.on w.rank t.chains.chains.items old a walk.last place n) (sym o.1) v.behind in
+    let has = has_left t.chains.chains.items chains' old cells' w.on w.rank a walk.last place whole (λ c is. omega (arith, w.on_below c is, w.fits)) o.0 behind unlinks in
+    let fits : place < length cells' = omega (arith, below', w.fits, has.size) in
     let p = truth_of trail in
-    let at_new : lit_at new place ≡ Some x = ap (λ (xs : List Cell). lit_at xs place) cells ∙ ap (λ (y : Cell). y.lit) (get_or-set_same old place cell no_cell fits ∙ is_cell) in
-    let else_new : (i : ℕ) → i ≢ place → lit_at new i ≡ lit_at old i = λ i ne. ap (λ (xs : List Cell). lit_at xs i) cells ∙ ap (λ (y : Cell). y.lit) (get_or-set_other old place i cell no_cell ne) in
+    let at_new : lit_at new place ≡ Some x = ap (λ (xs : List Cell). lit_at xs place) cells ∙ ap (λ (y : Cell). y.lit) (get_or-set_same cells' place cell no_cell fits ∙ is_cell) in
+    let else_new : (i : ℕ) → i ≢ place → lit_at new i ≡ lit_at old i = λ i ne. ap (λ (xs : List Cell). lit_at xs i) cells ∙ ap (λ (y : Cell). y.lit) (get_or-set_other cells' place i cell no_cell ne) ∙ has.lits i in
+    let next_new : (i : ℕ) → i ≢ place → next_at new i ≡ next_at cells' i = λ i ne. ap (λ (xs : List Cell). next_at xs i) cells ∙ ap (λ (y : Cell). y.next) (get_or-set_other cells' place i cell no_cell ne) in
+    let size : length new ≡ length old = ap length cells ∙ length-set cells' place cell ∙ has.size in
     let twin_ne = twin_apart number place twin of_place in
     let twin_new : lit_at new twin ≡ Some other = else_new twin twin_ne ∙ is_other in
     let high : number ≤ length c.clauses = omega (arith, twin_number number place twin t.chained of_place below', v.all) in
@@ -222,16 +229,23 @@ visiting_move c t u trail walk next chain cell number twin x other good v same l
       | inl e ↦ ap (λ j. is_some (lit_at new j)) e ∙ ap is_some at_new ∙ ap is_some (sym at) ∙ ap (λ j. is_some (lit_at old j)) (sym e)
       | inr ne ↦ ap is_some (else_new i ne)
     ] in
-    let step = walk_step t.variables t.chains.chains.items old (2 * t.chained) a x place walk.left next.left chain cell left v.walking range is_chain is_cell in
-    let stepped = stepped_at t.variables (2 * t.chained) v.walking.rest place next.left (set t.chains.chains.items (index_of x) chain) u.chains.chains.items (set old place cell) new a next.lit (next_at old place) next.head chains cells lit head step in
-    subst (λ (y : Table). IsVisiting c y trail next None) (sym same) (record {
+    let x_not_a : x ≢ a = λ e. to.not_false (ap (literal_value p) e ∙ a_false) in
+    let moved = moved_at t.variables t.chains.chains.items chains' u.chains.chains.items old cells' new (2 * t.chained) a x place chain cell w v.range range o.0 has is_chain is_cell chains cells in
+    let z = moved.0 in
+    let far : index_of a ≢ index_of x = λ e. x_not_a (index_apart x a (sym e)) in
+    let index : index_of a < length t.chains.chains.items = omega (arith, index_below t.variables a v.range, w.size) in
+    let less : chain_at u.chains.chains.items a ≡ record { head = has.head'; len = (chain_at t.chains.chains.items a).len - 1 } =
+    ap (λ (xs : List Chain). chain_at xs a) chains ∙ get_or-set_other chains' (index_of x) (index_of a) chain no_chain far ∙ ap (λ (xs : List Chain). chain_at xs a) has.is ∙ get_or-set_same t.chains.chains.items (index_of a) _ no_chain index in
+    let shorter : (chain_at u.chains.chains.items a).len + 1 ≡ (chain_at t.chains.chains.items a).len = omega (arith, ap (λ (y : Chain). y.len) less, whole.below place o.0) in
+    let linked : (i : ℕ) → IsOn old w.on a i → i ≢ place → 0 < w.rank i → next_at old i ≡ place → next_at new i ≡ next = λ i is ne pos e. next_new i ne ∙ has.jump i is pos e ∙ sym is_next in
+    subst (λ (y : Table). IsVisiting c y trail (record { lit = a; last = walk.last; head = next; left = left' }) None) (sym same) (record {
       working = record {
         variables = v.working.variables;
         list = v.working.list;
         room = v.working.room;
         watches = record {
           variables = v.working.watches.variables;
-          count = length-map new cell_lit ∙ ap length cells ∙ length-set old place cell ∙ sym (length-map old cell_lit) ∙ v.working.watches.count;
+          count = length-map new cell_lit ∙ size ∙ sym (length-map old cell_lit) ∙ v.working.watches.count;
           each = λ n low n_high.
               let is = watched_is (record t { chains = u.chains }) n in
               subst (IsWatched (clause_at c n)) (sym is) (elim (cases_eq n number) [
@@ -277,56 +291,60 @@ visiting_move c t u trail walk next chain cell number twin x other good v same l
       };
       all = v.all;
       here = v.here;
-      range = omega (arith, v.range, ap (λ (l : Literal). l.variable) lit);
-      is_false = v.is_false ∙ ap opposite (sym lit);
-      walking = stepped.0;
-      kept = λ none n e f l of_ below is_e rest is_f. elim (cases_eq e place) [
-        | inl here ↦ absurd (
-            let is_a : x ≡ a = some_same (sym at_new ∙ ap (lit_at new) (sym here) ∙ is_e ∙ ap Some lit) in
-            to.not_false (ap (literal_value p) is_a ∙ a_false))
-        | inr far ↦ elim (cases_eq f place) [
+      range = v.range;
+      is_false = v.is_false;
+      walking = z;
+      ahead = λ some. (
+          let n = whole.next place o.0 (omega (arith, o.1, one)) in
+          let ne : next ≢ place = λ e. omega (arith, ap w.rank (sym is_next ∙ e), n.1) in
+          let on = subst (IsOn old w.on a) (sym is_next) n.0 in
+          let rank : w.rank next + 1 ≡ w.rank place = omega (arith, ap w.rank is_next, n.1) in
+          ((moved.1 next ne ∙ on.0, else_new next ne ∙ on.1), omega (arith, moved.2 next ne (omega (arith, rank)), rank, o.1, one)));
+      behind = behind_moved w.on z.on w.rank z.rank t.chains.chains.items u.chains.chains.items old new a walk.last place next left' (subst (IsBehind w.on w.rank t.chains.chains.items old a walk.last place) one v.behind) (omega (arith, o.1, one)) moved.1 else_new moved.3 shorter linked;
+      kept = λ none n e f l of_ below is_e le is_f. elim (cases_eq e place) [
+        | inl here ↦ absurd (x_not_a (some_same (sym at_new ∙ ap (lit_at new) (sym here) ∙ is_e)))
+        | inr far_e ↦ elim (cases_eq f place) [
           | inl here ↦ absurd (
               let there : e ≡ twin = twin_one number n place twin f e of_place (twin_swap n e f of_) here in
-              parts.1 (some_same (sym (sym twin_new ∙ ap (lit_at new) (sym there) ∙ is_e ∙ ap Some lit))))
-          | inr off ↦ v.kept none n e f l of_ below (sym (else_new e far) ∙ is_e ∙ ap Some lit) (sym (stepped.1 e far) ∙ rest) (sym (else_new f off) ∙ is_f)
+              parts.1 (some_same (sym (sym twin_new ∙ ap (lit_at new) (sym there) ∙ is_e))))
+          | inr off ↦ (
+              let was = sym (else_new e far_e) ∙ is_e in
+              let on = on_chain c t trail walk None v n e f of_ below was in
+              let ne : w.rank e ≢ w.rank place = λ r. far_e (whole.apart e place (on, was) o.0 r) in
+              let more : walk.left ≤ w.rank e = elim (cases_lt (w.rank place) (w.rank e)) [
+                | inl lt ↦ omega (arith, lt, o.1)
+                | inr ge ↦ absurd (omega (arith, moved.2 e far_e (omega arith), le, ge, ne, o.1, one))
+              ] in
+              v.kept none n e f l of_ below was more (sym (else_new f off) ∙ is_f))
         ]
       ];
       found = tt;
     })
 
 -- a walk begins
-pub visiting_start : (c : ClauseList) (t u : Table) (trail : TrailList) (walk : Walk) → IsWorking c t trail → IsWalking t.variables t.chains.chains.items t.chains.cells.items (2 * t.chained) no_seen.lit 0 0 → u ≡ record t { chains = u.chains } → t.chained ≡ length c.clauses → t.worked < length t.seen.items → seen_at t.seen.items t.worked ≡ opposite walk.lit → walk.lit.variable ≤ t.variables → walk.head ≡ (chain_at t.chains.chains.items walk.lit).head → walk.left ≡ (chain_at t.chains.chains.items walk.lit).len → u.chains.chains.items ≡ set t.chains.chains.items (index_of walk.lit) no_chain → u.chains.cells.items ≡ t.chains.cells.items → IsVisiting c u trail walk None
-visiting_start c t u trail walk working walking same all here is_false range head left chains cells =
+pub visiting_start : (c : ClauseList) (t : Table) (trail : TrailList) (walk : Walk) → IsWorking c t trail → AreChained t → t.chained ≡ length c.clauses → t.worked < length t.seen.items → seen_at t.seen.items t.worked ≡ opposite walk.lit → walk.lit.variable ≤ t.variables → walk.last ≡ None → walk.head ≡ (chain_at t.chains.chains.items walk.lit).head → walk.left ≡ (chain_at t.chains.chains.items walk.lit).len → IsVisiting c t trail walk None
+visiting_start c t trail walk working w all here is_false range last head left =
     let a = walk.lit in
-    let start = walk_start t.variables t.chains.chains.items t.chains.cells.items (2 * t.chained) a no_seen.lit 0 walking range in
-    let b = subst (λ h. IsWalking t.variables (set t.chains.chains.items (index_of a) no_chain) t.chains.cells.items (2 * t.chained) a h (chain_at t.chains.chains.items a).len) (sym head) start in
-    let d = subst (λ n. IsWalking t.variables (set t.chains.chains.items (index_of a) no_chain) t.chains.cells.items (2 * t.chained) a walk.head n) (sym left) b in
-    let e = subst (λ xs. IsWalking t.variables (set t.chains.chains.items (index_of a) no_chain) xs (2 * t.chained) a walk.head walk.left) (sym cells) d in
-    let w = subst (λ xs. IsWalking t.variables xs u.chains.cells.items (2 * t.chained) a walk.head walk.left) (sym chains) e in
-    let index : index_of a < length t.chains.chains.items = omega (arith, index_below t.variables a range, walking.size) in
-    let empty : chain_at u.chains.chains.items a ≡ no_chain = ap (λ xs. chain_at xs a) chains ∙ get_or-set_same t.chains.chains.items (index_of a) no_chain no_chain index in
-    let working' = working_lits c t u trail working same (ap length cells) (λ i. ap (λ xs. lit_at xs i) cells) in
-    subst (λ (x : Table). IsVisiting c x trail walk None) (sym same) (record {
-      working = subst (λ (x : Table). IsWorking c x trail) same working';
+    let whole = w.each a range in
+    record {
+      working = working;
       all = all;
       here = here;
       range = range;
       is_false = is_false;
       walking = w;
-      kept = λ none n e f l of_ below is_e rest is_f. absurd (
-          let place_below : e < 2 * t.chained = elim of_.1 [ inl q ↦ omega (arith, q.0, of_.0, below) | inr q ↦ omega (arith, q.1, of_.0, below) ] in
-          elim (w.all e a place_below is_e) [
-            | inl o ↦ omega (arith, (w.each a range).below e (o, is_e), ap (λ (x : Chain). x.len) empty)
-            | inr r ↦ (let clash : true ≡ false = sym r ∙ rest in cc)
+      ahead = λ some. (let f = whole.first (omega (arith, left)) in (subst (IsOn t.chains.cells.items w.on a) (sym head) f.0, omega (arith, ap w.rank head, f.1, left)));
+      behind = rw last left;
+      kept = λ none n e f l of_ below is_e le is_f. absurd (
+          let lt : e < 2 * t.chained = elim of_.1 [ inl q ↦ omega (arith, q.0, of_.0, below) | inr q ↦ omega (arith, q.1, of_.0, below) ] in
+          elim (w.all e a lt is_e) [
+            | inl o ↦ omega (arith, whole.below e (o, is_e), le, left)
+            | inr r ↦ none_ahead t.variables t.chains.chains.items t.chains.cells.items (2 * t.chained) no_seen.lit 0 w e r
           ]);
       found = tt;
-    })
+    }
 
 -- a walk ends
-pub visited_chained : (c : ClauseList) (t : Table) (trail : TrailList) (walk : Walk) (conflict : Option ℕ) → IsVisiting c t trail walk conflict → walk.left ≡ 0 → IsWalking t.variables t.chains.chains.items t.chains.cells.items (2 * t.chained) no_seen.lit 0 0
-visited_chained c t trail walk conflict v none =
-    walk_any t.variables t.chains.chains.items t.chains.cells.items (2 * t.chained) walk.lit no_seen.lit walk.head 0 (subst (IsWalking t.variables t.chains.chains.items t.chains.cells.items (2 * t.chained) walk.lit walk.head) none v.walking)
-
 pub visited_held : (c : ClauseList) (t : Table) (trail : TrailList) (walk : Walk) → IsVisiting c t trail walk None → walk.left ≡ 0 → AreHeld t.chains.cells.items t.chained t.seen.items (t.worked + 1)
 visited_held c t trail walk v none = λ n e f k l of_ below is_k is_l i lt is. elim (cases_lt i t.worked) [
   | inl before ↦ v.working.held n e f k l of_ below is_k is_l i before is
@@ -334,11 +352,7 @@ visited_held c t trail walk v none = λ n e f k l of_ below is_k is_l i lt is. e
       let here : i ≡ t.worked = omega arith in
       let same : opposite walk.lit ≡ opposite k = sym v.is_false ∙ ap (seen_at t.seen.items) (sym here) ∙ is in
       let lit : k ≡ walk.lit = sym (opposite_twice k) ∙ ap opposite (sym same) ∙ opposite_twice walk.lit in
-      let off : v.walking.rest e ≡ false = elim (cases_Bool (v.walking.rest e)) [
-        | inl r ↦ absurd (omega (arith, v.walking.ahead.below e r, none))
-        | inr r ↦ r
-      ] in
-      rw here (v.kept refl n e f l of_ below (is_k ∙ ap Some lit) off is_l))
+      rw here (v.kept refl n e f l of_ below (is_k ∙ ap Some lit) (omega (arith, none)) is_l))
 ]
 
 pub next_is : (cells : List Cell) (place : ℕ) (x : Cell) → place < length cells → x ≡ get_or cells place x → x.next ≡ next_at cells place
@@ -349,15 +363,26 @@ lit_is cells place x lt is = ap (λ (y : Cell). y.lit) (is ∙ get_or_default ce
 
 pub head_fits : (c : ClauseList) (t : Table) (trail : TrailList) (walk : Walk) (conflict : Option ℕ) → IsVisiting c t trail walk conflict → 0 < walk.left → walk.head < length t.chains.cells.items
 head_fits c t trail walk conflict v more =
-    omega (arith, v.walking.rest_below walk.head (v.walking.ahead.first more).0, v.walking.fits)
+    omega (arith, v.walking.on_below walk.head (v.ahead more).0.0, v.walking.fits)
 
 pub twin_fits : (c : ClauseList) (t : Table) (trail : TrailList) (walk : Walk) (conflict : Option ℕ) (number twin : ℕ) → IsVisiting c t trail walk conflict → 0 < walk.left → AreOf number walk.head twin → twin < length t.chains.cells.items
 twin_fits c t trail walk conflict number twin v more of_ =
-    let below = v.walking.rest_below walk.head (v.walking.ahead.first more).0 in
+    let below = v.walking.on_below walk.head (v.ahead more).0.0 in
     elim of_.1 [
       | inl q ↦ omega (arith, q.0, q.1, of_.0, below, v.working.chained, sym (length-map t.chains.cells.items cell_lit) ∙ v.working.watches.count)
       | inr q ↦ omega (arith, q.0, q.1, of_.0, below, v.working.chained, sym (length-map t.chains.cells.items cell_lit) ∙ v.working.watches.count)
     ]
+
+-- the watch before it, if there is one, is one of the list
+pub last_fits : (c : ClauseList) (t : Table) (trail : TrailList) (walk : Walk) (conflict last : Option ℕ) → IsVisiting c t trail walk conflict → walk.last ≡ last → IfSome last (λ i. i < length t.chains.cells.items)
+last_fits c t trail walk conflict None v is = tt
+last_fits c t trail walk conflict (Some p) v is =
+    let b = subst (λ o. IsBehind v.walking.on v.walking.rank t.chains.chains.items t.chains.cells.items walk.lit o walk.head walk.left) is v.behind in
+    omega (arith, v.walking.on_below p b.0.0, v.walking.fits)
+
+-- the chain has a watch
+pub chain_some : (c : ClauseList) (t : Table) (trail : TrailList) (walk : Walk) (conflict : Option ℕ) → IsVisiting c t trail walk conflict → 0 < walk.left → 0 < (chain_at t.chains.chains.items walk.lit).len
+chain_some c t trail walk conflict v more = omega (arith, (v.walking.each walk.lit v.range).below walk.head (v.ahead more).0)
 
 pub twin_leans : (seen : List Seen) (cells : List Cell) (n m place twin b : ℕ) (other l : Literal) (worked : ℕ) → AreOf n place twin → AreOf m place b → lit_at cells twin ≡ Some other → lit_at cells b ≡ Some l → Leans seen other worked → Leans seen l worked
 twin_leans seen cells n m place twin b other l worked of_ of' is is_l leans =

@@ -1,5 +1,5 @@
 -- watches in chains
-use Rattle.std.specs.Prelude.{◌⊎◌, ◌≡◌, ℕ, ◌+◌, ◌*◌, ◌≤◌, ◌<◌, Bool, true, false, List, Option, Some, None, length, slice_index_or, sum_by, if◌then◌else◌}
+use Rattle.std.specs.Prelude.{◌⊎◌, ◌≡◌, ℕ, ◌+◌, ◌-◌, ◌*◌, ◌≤◌, ◌<◌, Bool, true, false, List, Option, Some, None, length, slice_index_or, slice_set, sum_by, if◌then◌else◌}
 use Rattle.ec_clause.specs.Literal.{Literal}
 use Rattle.ec_unit.specs.declared.chains.Chain.{Chain}
 use Rattle.ec_unit.specs.declared.chains.Cell.{Cell}
@@ -39,6 +39,17 @@ pub record IsChain (cells : List Cell) (member : ℕ → Type 0) (rank : ℕ →
 -- a watch of a literal that is in its chain
 abbrev pub IsOn : List Cell → (ℕ → Bool) → Literal → ℕ → Type 0
 IsOn cells on l c = (on c ≡ true) × (lit_at cells c ≡ Some l)
+
+-- a walk over the chain of a literal has come to a place with so many watches left: behind the watch before it, if
+-- there is one, and else at the front
+abbrev pub IsBehind : (ℕ → Bool) → (ℕ → ℕ) → List Chain → List Cell → Literal → Option ℕ → ℕ → ℕ → Type 0
+IsBehind on rank chains cells a None head left = left ≡ (chain_at chains a).len
+IsBehind on rank chains cells a (Some last) head left = IsOn cells on a last × (rank last ≡ left) × (0 < left → next_at cells last ≡ head)
+
+-- the watch of a literal at a place is taken out of its chain, from behind the watch before it, if there is one
+abbrev pub Unlinks : Option ℕ → List Chain → List Cell → Literal → ℕ → List Chain → List Cell → Type 0
+Unlinks None chains cells a place chains' cells' = (chains' ≡ slice_set chains (index_of a) (record { head = next_at cells place; len = (chain_at chains a).len - 1 })) × (cells' ≡ cells)
+Unlinks (Some last) chains cells a place chains' cells' = (chains' ≡ slice_set chains (index_of a) (record { head = (chain_at chains a).head; len = (chain_at chains a).len - 1 })) × (cells' ≡ slice_set cells last (record { lit = lit_at cells last; next = next_at cells place }))
 
 -- each watch below a place is in the chain of its literal, or in what is left of a walk over the watches of one literal
 pub record IsWalking (variables : ℕ) (chains : List Chain) (cells : List Cell) (upto : ℕ) (walked : Literal) (head left : ℕ) : Type 0 where

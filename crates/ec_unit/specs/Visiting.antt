@@ -1,5 +1,5 @@
 -- a walk over the watches of a literal that became false
-use Rattle.std.specs.Prelude.{◌≡◌, ◌≢◌, ℕ, ◌*◌, ◌≤◌, ◌<◌, false, List, Option, Some, None, IfSome, length, Contains}
+use Rattle.std.specs.Prelude.{◌≡◌, ◌≢◌, ℕ, ◌+◌, ◌≤◌, ◌<◌, false, List, Option, Some, None, IfSome, length, Contains}
 use Rattle.ec_clause.specs.Literal.{Literal, opposite}
 use Rattle.ec_clause.specs.ClauseList.{ClauseList, clause_at}
 use Rattle.ec_clause.specs.Truth.{Truth, literal_value}
@@ -10,9 +10,9 @@ use Rattle.ec_unit.specs.declared.visit.Step.{Step}
 use Rattle.ec_unit.specs.declared.visit.Step.TheVariants.{Stay, Move, Conflict}
 use Rattle.ec_unit.specs.declared.visit.Walk.{Walk}
 use Rattle.ec_unit.specs.Settling.{IsFalseAt}
-use Rattle.ec_unit.specs.Chained.{lit_at, IsWalking}
+use Rattle.ec_unit.specs.Chained.{lit_at, IsOn, IsBehind}
 use Rattle.ec_unit.specs.Leaning.{Leans, AreOf, seen_at}
-use Rattle.ec_unit.specs.Working.{IsWorking}
+use Rattle.ec_unit.specs.Working.{IsWorking, AreChained}
 
 -- a literal of a clause, another than the one given, that is not false
 pub record IsOther (p : Truth) (lits : List Literal) (other l : Literal) : Type 0 where
@@ -33,6 +33,8 @@ pub record IsVisiting (c : ClauseList) (t : Table) (trail : TrailList) (walk : W
   pub here : t.worked < length t.seen.items
   pub range : walk.lit.variable ≤ t.variables
   pub is_false : seen_at t.seen.items t.worked ≡ opposite walk.lit
-  pub walking : IsWalking t.variables t.chains.chains.items t.chains.cells.items (2 * t.chained) walk.lit walk.head walk.left
-  pub kept : conflict ≡ None → (number a b : ℕ) (l : Literal) → AreOf number a b → number ≤ t.chained → lit_at t.chains.cells.items a ≡ Some walk.lit → walking.rest a ≡ false → lit_at t.chains.cells.items b ≡ Some l → Leans t.seen.items l t.worked
+  pub walking : AreChained t
+  pub ahead : 0 < walk.left → IsOn t.chains.cells.items walking.on walk.lit walk.head × (walking.rank walk.head + 1 ≡ walk.left)
+  pub behind : IsBehind walking.on walking.rank t.chains.chains.items t.chains.cells.items walk.lit walk.last walk.head walk.left
+  pub kept : conflict ≡ None → (number a b : ℕ) (l : Literal) → AreOf number a b → number ≤ t.chained → lit_at t.chains.cells.items a ≡ Some walk.lit → walk.left ≤ walking.rank a → lit_at t.chains.cells.items b ≡ Some l → Leans t.seen.items l t.worked
   pub found : IfSome conflict (IsFalseAt c (truth_of trail))

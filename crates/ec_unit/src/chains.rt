@@ -1,7 +1,7 @@
 //! Watches in chains: one chain for each literal, all in flat memory.
 
-ghost use Rattle.std.specs.Prelude.{◌≡◌, ℕ, ◌+◌, ◌-◌, ◌*◌, ◌^◌, ◌<◌, ◌≤◌, Some, length, slice_set};
-ghost use Rattle.ec_unit.specs.Chained.{index_of, chain_at, no_chain};
+ghost use Rattle.std.specs.Prelude.{◌≡◌, ℕ, ◌+◌, ◌-◌, ◌*◌, ◌^◌, ◌<◌, ◌≤◌, Some, IfSome, length, slice_set};
+ghost use Rattle.ec_unit.specs.Chained.{Unlinks, index_of, chain_at};
 
 use ec_clause::lit::Lit;
 
@@ -25,6 +25,9 @@ pub struct Cell {
 pub struct Chains {
     pub chains: Vec<Chain>,
     pub cells: Vec<Cell>,
+    /// Where in each clause the look for a literal to watch begins: where the last one was found.
+    /// It saves time in long clauses, and nothing rests on it.
+    pub starts: Vec<u32>,
 }
 
 /// Where the chain of a literal stands.
@@ -36,17 +39,29 @@ pub fn index(lit: Lit) -> usize
 }
 
 impl Chains {
-    /// Takes all watches out of the literal's chain.
-    pub fn detach(&mut self, lit: Lit) -> Chain
-        requires { index_of lit < length self.old.chains.items }
-        ensures chain { result ≡ chain_at self.old.chains.items lit }
-        ensures chains { self.new.chains.items ≡ slice_set self.old.chains.items (index_of lit) no_chain }
-        ensures cells { self.new.cells.items ≡ self.old.cells.items }
+    /// Takes the watch at a place out of the literal's chain. `last` is the watch before it there,
+    /// if there is one.
+    pub fn unlink(&mut self, lit: Lit, last: Option<usize>, place: usize)
+        requires index { index_of lit < length self.old.chains.items }
+        requires place { place < length self.old.cells.items }
+        requires last { IfSome last (λ i. i < length self.old.cells.items) }
+        requires some { 0 < (chain_at self.old.chains.items lit).len }
+        ensures { Unlinks last self.old.chains.items self.old.cells.items lit place self.new.chains.items self.new.cells.items }
     {
+        let next = self.cells[place].next;
         let index = index(lit);
         let chain = self.chains[index];
-        self.chains[index] = Chain { head: 0, len: 0 };
-        chain
+        let len = chain.len - 1;
+        match last {
+            None => self.chains[index] = Chain { head: next, len },
+            Some(last) => {
+                self.cells[last].next = next;
+                self.chains[index] = Chain {
+                    head: chain.head,
+                    len,
+                };
+            }
+        }
     }
 
     /// Puts the watch at a place onto the literal, at the front of its chain.

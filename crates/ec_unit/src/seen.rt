@@ -24,10 +24,7 @@ pub fn true_at(trail: &Trail, lit: Lit) -> Option<u32>
     ensures some { IfSome result (IsTrueAt trail.now.entries lit) }
     ensures none { IfNone result (literal_value (truth_of trail.now) lit ≢ Some true) }
 {
-    match trail.value(lit) {
-        Some(true) => trail.place_of(lit.variable()),
-        Some(false) | None => None,
-    }
+    trail.place_of(lit)
 }
 
 /// How many literals at the front of the trail were seen before.

@@ -48,6 +48,7 @@ pub fn empty(alloc: Global, variables: u32) -> Result<Table, AllocError>
     let chains = Chains {
         chains: vec![in alloc; none; 2 * variables as usize + 2]?,
         cells: Vec::new(alloc),
+        starts: Vec::new(alloc),
     };
     Ok(Table {
         variables,
@@ -72,6 +73,7 @@ fn first_two(clause: &[Lit]) -> (Option<Lit>, Option<Lit>)
 /// Watches the first two literals of the clause of the next number, in no chain yet.
 pub fn add(
     cells: &mut Vec<Cell>,
+    starts: &mut Vec<u32>,
     short: &mut Vec<u32>,
     clause: &[Lit],
     number: u32,
@@ -82,7 +84,9 @@ pub fn add(
     ensures short_err { OnErr result (short.new.items ≡ short.old.items) }
 {
     cells.reserve(2)?;
+    starts.reserve(1)?;
     short.reserve(1)?;
+    starts.push_reserved(0);
     let (first, second) = first_two(clause);
     if first.is_none() {
         short.push_reserved(number);

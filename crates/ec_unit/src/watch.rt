@@ -47,7 +47,7 @@ impl Watch {
     ghost use Rattle.ec_unit.specs.Settling.{Settles};
     ghost use Rattle.ec_unit.specs.Watching.{Watched, Watches, WatchesUpTo, IsWatched, AreSafe, watched_at};
 
-    /// Watches over all clauses of the list. It takes 32 bytes a clause and 40 a variable.
+    /// Watches over all clauses of the list. It takes 36 bytes a clause and 40 a variable.
     pub fn new(alloc: Global, clauses: &Clauses) -> Result<Watch, AllocError>
         ensures { IfOk result (Watches clauses.now) }
     {
@@ -56,6 +56,7 @@ impl Watch {
             let number = index + 1;
             add(
                 &mut table.chains.cells,
+                &mut table.chains.starts,
                 &mut table.short,
                 clauses.get(number),
                 number,
@@ -75,6 +76,7 @@ impl Watch {
         let clause = clauses.get(number);
         add(
             &mut self.table.chains.cells,
+            &mut self.table.chains.starts,
             &mut self.table.short,
             clause,
             number,

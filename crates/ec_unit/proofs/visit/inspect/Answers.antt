@@ -1,4 +1,4 @@
-use Rattle.std.proofs.Common.{refl, ◌∙◌, subst}
+use Rattle.std.proofs.Common.{◌-◌, [], refl, ap, ◌∙◌, subst, arith}
 use Rattle.ec_clause.specs.Literal.{Literal}
 use Rattle.ec_clause.specs.Truth.{literal_value}
 use Rattle.ec_trail.specs.TrailList.{truth_of}
@@ -6,6 +6,12 @@ use Rattle.ec_trail.proofs.BackTo.{some_entry}
 use Rattle.ec_unit.specs.Leaning.{Leans}
 use Rattle.ec_unit.proofs.Looked.{no_some, all_false, one_open, adds_one}
 use Rattle.ec_unit.proofs.visit.inspect.Goals as goal
+
+pub true_at-requires : goal.true_at-requires
+true_at-requires c =
+    let at = c.requires.other in
+    let clause = c.len-known.ensures.clauses (c.args.number - 1) [] (omega (arith, c.requires.low, c.requires.high)) in
+    omega (arith, (clause.in_range at.0 c.args.other at.1).1, ap (λ (l : Literal). l.variable) at.2, c.requires.list)
 
 pub returns-in-Some-clause-step : goal.returns-in-Some-clause-step
 returns-in-Some-clause-step c =

@@ -1,29 +1,24 @@
-use Rattle.std.proofs.Common.{◌≡◌, ℕ, Some, None, slice_index_or, refl, ap, sym, subst, arith}
-use Rattle.std.specs.Prelude.{vec_capacity}
-use Rattle.ec_trail.specs.TrailList.{TrailList, entry_of, truth_of}
-use Rattle.ec_trail.proofs.Lookup.{entry_at, entry_past, entry_other, none_value, some_value}
-use Rattle.ec_trail.proofs.BackTo.{some_entry}
+use Rattle.std.proofs.Common.{◌≡◌, ◌<◌, Some, true, length, get_or, ap, sym, subst, ◌∙◌, arith}
+use Rattle.std.specs.Prelude.{IfSome, slice_get, vec_capacity}
+use Rattle.ec_clause.specs.Truth.{literal_value}
+use Rattle.ec_trail.specs.TrailList.{TrailList, truth_of}
+use Rattle.ec_trail.proofs.Values.{true_place}
 use Rattle.ec_trail.proofs.trail.Trail.place_of.Goals as goal
 
-pub returns-then-place-len-clause-none : goal.returns-then-place-len-clause-none
-returns-then-place-len-clause-none c =
+pub returns-in-Some-true-clause-within : goal.returns-in-Some-true-clause-within
+returns-in-Some-true-clause-within c =
     let a = c.self.inside in
-    let same_variables = ap (λ (t : TrailList). t.variables) c.self.view_is in
-    let none = entry_past a.variables (vec_capacity a.entries) a.entries.items a.values a.places.items c.args.variable c.index-place.result.now some_entry c.self.invariant (omega arith) c.index-place.ensures (omega arith) in
-    let value = none_value a.variables a.entries.items c.args.variable none in
-    (λ h. subst (λ (t : TrailList). slice_index_or (truth_of t) c.args.variable None ≡ None) c.self.view_is value, λ h. refl)
+    let variables = ap (λ (t : TrailList). t.variables) c.self.view_is in
+    let is : literal_value (truth_of c.args.self.now) c.args.lit ≡ Some true = cc (c.value.ensures, c.in-Some-true.is, c.in-Some-true.field-0-test) in
+    let at = c.index.ensures ∙ ap (λ v. get_or a.places.items v c.index.result.now) c.variable.ensures.variable in
+    let place = true_place a.variables (vec_capacity a.entries) a.entries.items a.values a.places.items c.args.lit c.index.result.now c.self.invariant (omega (arith, c.requires, variables)) at (subst (λ (t : TrailList). literal_value (truth_of t) c.args.lit ≡ Some true) (sym c.self.view_is) is) in
+    subst (λ (t : TrailList). c.index.result.now < length t.entries) c.self.view_is place.0
 
-pub returns-then-variable-clause-none : goal.returns-then-variable-clause-none
-returns-then-variable-clause-none c =
+pub returns-in-Some-true-clause-there : goal.returns-in-Some-true-clause-there
+returns-in-Some-true-clause-there c =
     let a = c.self.inside in
-    let same_variables = ap (λ (t : TrailList). t.variables) c.self.view_is in
-    let none = entry_other a.variables (vec_capacity a.entries) a.entries.items a.values a.places.items c.args.variable c.index-place.result.now c.index.result.now c.self.invariant (omega arith) c.index-place.ensures c.index.ensures (λ same. omega arith) in
-    let value = none_value a.variables a.entries.items c.args.variable none in
-    (λ h. subst (λ (t : TrailList). slice_index_or (truth_of t) c.args.variable None ≡ None) c.self.view_is value, λ h. refl)
-
-pub returns-clause-none : goal.returns-clause-none
-returns-clause-none c =
-    let a = c.self.inside in
-    let same_variables = ap (λ (t : TrailList). t.variables) c.self.view_is in
-    let some = entry_at a.variables (vec_capacity a.entries) a.entries.items a.values a.places.items c.args.variable c.index-place.result.now c.index.result.now c.self.invariant (omega arith) c.index-place.ensures (omega arith) c.index.ensures (omega arith) in
-    (λ h. cc, λ none. absurd (some_value a.variables a.entries.items c.args.variable c.index.result.now (omega arith) some (subst (λ (t : TrailList). slice_index_or (truth_of t) c.args.variable None ≡ None) (sym c.self.view_is) none)))
+    let variables = ap (λ (t : TrailList). t.variables) c.self.view_is in
+    let is : literal_value (truth_of c.args.self.now) c.args.lit ≡ Some true = cc (c.value.ensures, c.in-Some-true.is, c.in-Some-true.field-0-test) in
+    let at = c.index.ensures ∙ ap (λ v. get_or a.places.items v c.index.result.now) c.variable.ensures.variable in
+    let place = true_place a.variables (vec_capacity a.entries) a.entries.items a.values a.places.items c.args.lit c.index.result.now c.self.invariant (omega (arith, c.requires, variables)) at (subst (λ (t : TrailList). literal_value (truth_of t) c.args.lit ≡ Some true) (sym c.self.view_is) is) in
+    subst (λ (t : TrailList). IfSome (slice_get t.entries c.index.result.now) (λ e. e.lit ≡ c.args.lit)) c.self.view_is place.1

@@ -9,14 +9,14 @@ use Rattle.ec_unit.proofs.watch.Watch.add.Goals as goal
 pub invariant_of-self : goal.invariant_of-self
 invariant_of-self c =
     let t = c.self.inside.table in
-    let u : Table = record t { chains = record t.chains { cells = c.add.new.cells }; short = c.add.new.short } in
+    let u : Table = record t { chains = record t.chains { cells = c.add.new.cells; starts = c.add.new.starts }; short = c.add.new.short } in
     table_same t u c.self.invariant refl refl c.in_err-add.ensures.cells_err c.in_err-add.ensures.short_err refl refl refl
 
 pub invariant_of-self-2 : goal.invariant_of-self-2
 invariant_of-self-2 c =
     let clauses = c.args.clauses.now in
     let t = c.self.inside.table in
-    let u : Table = record t { chains = record t.chains { cells = c.add.new.cells }; short = c.add.new.short } in
+    let u : Table = record t { chains = record t.chains { cells = c.add.new.cells; starts = c.add.new.starts }; short = c.add.new.short } in
     let number = c.args.number in
     let lits = clause_at clauses number in
     let w : WatchesUpTo clauses (number - 1) (watched_of t) = subst (WatchesUpTo clauses (number - 1)) (sym c.self.view_is) c.requires.next in
@@ -28,7 +28,7 @@ pub returns-clause-ok : goal.returns-clause-ok
 returns-clause-ok c =
     let clauses = c.args.clauses.now in
     let t = c.self.inside.table in
-    let u : Table = record t { chains = record t.chains { cells = c.add.new.cells }; short = c.add.new.short } in
+    let u : Table = record t { chains = record t.chains { cells = c.add.new.cells; starts = c.add.new.starts }; short = c.add.new.short } in
     let number = c.args.number in
     let lits = clause_at clauses number in
     let w : WatchesUpTo clauses (number - 1) (watched_of t) = subst (WatchesUpTo clauses (number - 1)) (sym c.self.view_is) c.requires.next in

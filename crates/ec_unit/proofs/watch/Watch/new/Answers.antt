@@ -27,5 +27,5 @@ loop-index-preserved c =
     let cells : c.add.new.cells.items ≡ t.chains.cells.items ++ cells_of lits = c.in_ok-add.ensures.cells ∙ ap (λ xs. t.chains.cells.items ++ cells_of xs) is in
     let short : c.add.new.short.items ≡ t.short.items ++ short_of lits number = c.in_ok-add.ensures.short ∙ ap (λ xs. t.short.items ++ short_of xs number) is in
     let clause : IsClause clauses.variables lits = subst (IsClause clauses.variables) is c.get.ensures.clause in
-    let u : Table = record t { chains = record t.chains { cells = c.add.new.cells }; short = c.add.new.short } in
+    let u : Table = record t { chains = record t.chains { cells = c.add.new.cells; starts = c.add.new.starts }; short = c.add.new.short } in
     (table_add t u lits number i.0 (omega arith) (watches_size clauses t (number - 1) w) refl refl refl refl refl cells short, watches_add clauses t u number w (omega arith) clause refl cells)
