@@ -1,5 +1,6 @@
 pub mod Walk
 pub mod Contained
+pub mod Shortening
 pub mod Learns
 pub mod Keeps
 pub mod Down

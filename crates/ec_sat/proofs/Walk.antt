@@ -284,7 +284,7 @@ not_not false = refl
 pub record Built (n : ℕ) (es : List Entry) (m : List Bool) (k : ℕ) : Type 0 where
   pub clause : IsClause n (left_of m (take k es))
   pub some : (i : ℕ) (d : Entry) → i < k → i < length es → get_or m (get_or es i d).lit.variable false ≡ true → get_or (all_false n (left_of m (take k es))) (get_or es i d).lit.variable None ≡ Some (get_or es i d).lit.positive
-  pub none : (v : ℕ) → ((i : ℕ) (d : Entry) → i < k → i < length es → (get_or es i d).lit.variable ≢ v) → get_or (all_false n (left_of m (take k es))) v None ≡ None
+  pub none : (v : ℕ) → ((i : ℕ) (d : Entry) → i < k → i < length es → get_or m (get_or es i d).lit.variable false ≡ true → (get_or es i d).lit.variable ≢ v) → get_or (all_false n (left_of m (take k es))) v None ≡ None
 
 pub built_none : (n : ℕ) (es : List Entry) (m : List Bool) → Built n es m 0
 built_none n es m = record {
@@ -293,7 +293,7 @@ built_none n es m = record {
   none = λ v far. none_everywhere (n + 1) v;
 }
 
-falses-length : (lits : List Literal) (p : Truth) → length (fold set_false p lits) ≡ length p
+pub falses-length : (lits : List Literal) (p : Truth) → length (fold set_false p lits) ≡ length p
 falses-length [] p = refl
 falses-length (x ∷ xs) p = falses-length xs (set_false p x) ∙ length-set p x.variable (Some (not x.positive))
 
@@ -312,7 +312,7 @@ built_more n es m k d trail lk old =
           ap (all_false n) now ∙ fold_push set_false (replicate (n + 1) None) lits (opposite e.lit) ∙ ap (λ b. set p v (Some b)) (not_not e.lit.positive) in
           let size : length p ≡ n + 1 = falses-length lits (replicate (n + 1) None) ∙ length-replicate (n + 1) nothing in
           record {
-            clause = rw now (IsClause_push n lits (opposite e.lit) old.clause range.0 range.1 (old.none v (λ i d' li lt. same_at n es trail i k d' d li lk)));
+            clause = rw now (IsClause_push n lits (opposite e.lit) old.clause range.0 range.1 (old.none v (λ i d' li lt on. same_at n es trail i k d' d li lk)));
             some = λ i d' li lt marked. elim (cases_eq i k) [
               | inl here ↦ (
                   let same : get_or es i d' ≡ e = get_or_default es i d' d lt ∙ ap (λ j. get_or es j d) here in
@@ -322,8 +322,8 @@ built_more n es m k d trail lk old =
                   rw truth (get_or-set_other p v (get_or es i d').lit.variable (Some e.lit.positive) None far ∙ old.some i d' (omega arith) lt marked))
             ];
             none = λ w far.
-                let ne : w ≢ v = λ same. far k d (omega arith) lk (sym same) in
-                rw truth (get_or-set_other p v w (Some e.lit.positive) None ne ∙ old.none w (λ i d' li lt. far i d' (omega arith) lt));
+                let ne : w ≢ v = λ same. far k d (omega arith) lk t (sym same) in
+                rw truth (get_or-set_other p v w (Some e.lit.positive) None ne ∙ old.none w (λ i d' li lt on. far i d' (omega arith) lt on));
           })
       | inr f ↦ (
           let now : left_of m (take (k + 1) es) ≡ lits = more ∙ cond-false (get_or m v false) _ _ f in
@@ -333,7 +333,7 @@ built_more n es m k d trail lk old =
               | inl here ↦ absurd (true≢false (sym marked ∙ ap (λ (e : Entry). get_or m e.lit.variable false) (get_or_default es i d' d lt ∙ ap (λ j. get_or es j d) here) ∙ f))
               | inr ne ↦ rw now (old.some i d' (omega arith) lt marked)
             ];
-            none = λ w far. rw now (old.none w (λ i d' li lt. far i d' (omega arith) lt));
+            none = λ w far. rw now (old.none w (λ i d' li lt on. far i d' (omega arith) lt on));
           })
     ]
 
@@ -351,7 +351,7 @@ learned_step c es m hints k trail le walked =
       follows = walked.follows (all_false n (left_of m (take k es))) 0 (record {
         size = falses-length (left_of m (take k es)) (replicate (n + 1) None) ∙ length-replicate (n + 1) nothing;
         below = made.some;
-        above = λ i d ge lt. made.none (get_or es i d).lit.variable (λ j d' lj ltj. same_at n es trail j i d' d (omega arith) lt);
+        above = λ i d ge lt. made.none (get_or es i d).lit.variable (λ j d' lj ltj on. same_at n es trail j i d' d (omega arith) lt);
       });
     }
 

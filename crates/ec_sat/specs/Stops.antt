@@ -1,5 +1,6 @@
 -- where the walk down the trail is
-use Rattle.std.specs.Prelude.{◌≡◌, ℕ, ◌+◌, ◌≤◌, ◌<◌, Bool, true, false, List, Some, None, length, reverse, nat_le, ◌-◌, slice_index_or as get_or}
+use Rattle.std.specs.Prelude.{◌≡◌, ℕ, ◌+◌, ◌≤◌, ◌<◌, Bool, true, false, List, Some, None, All, length, reverse, nat_le, ◌-◌, slice_index_or as get_or}
+use Rattle.ec_clause.specs.Literal.{Literal}
 use Rattle.std.specs.List.{prefix_len}
 use Rattle.ec_trail.specs.TrailList.{top_level}
 use Rattle.ec_clause.specs.Truth.{Truth}
@@ -37,3 +38,23 @@ pub record StopsAt (c : ClauseList) (n : ℕ) (es : List Entry) (m : List Bool) 
   pub walked : Walked c n es m (reverse hints) (place + 1)
   pub top : first_top es ≤ place
   pub alone : (i : ℕ) (d : Entry) → i < place → get_or m (get_or es i d).lit.variable false ≡ true → (get_or es i d).level < (get_or es place d).level
+
+-- a truth that agrees with the marked literals, and has no value for the others from a place on
+pub record Agrees (n : ℕ) (es : List Entry) (m : List Bool) (k : ℕ) (p : Truth) : Type 0 where
+  pub size : length p ≡ n + 1
+  pub marked : (i : ℕ) (d : Entry) → i < length es → get_or m (get_or es i d).lit.variable false ≡ true → get_or p (get_or es i d).lit.variable None ≡ Some (get_or es i d).lit.positive
+  pub rest : (i : ℕ) (d : Entry) → k ≤ i → i < length es → get_or m (get_or es i d).lit.variable false ≡ false → get_or p (get_or es i d).lit.variable None ≡ None
+
+-- the marked literals, none of which stands above a place, are a clause that follows, whose only literal of the
+-- place's level or above is the place's; those from k on are dropped or left for good
+pub record IsAsserting (c : ClauseList) (n : ℕ) (es : List Entry) (m : List Bool) (hints : List ℕ) (place k : ℕ) : Type 0 where
+  pub in_range : place < length es
+  pub some : 0 < length hints
+  pub above : (i : ℕ) (d : Entry) → place < i → i < length es → get_or m (get_or es i d).lit.variable false ≡ false
+  pub follows : (p : Truth) (at : ℕ) → Agrees n es m k p → hints_fault c (reverse hints) p at ≡ None
+  pub top : first_top es ≤ place
+  pub alone : (i : ℕ) (d : Entry) → i < place → get_or m (get_or es i d).lit.variable false ≡ true → (get_or es i d).level < (get_or es place d).level
+
+-- the variable of each literal is marked
+abbrev pub AllMarked : List Bool → List Literal → Type 0
+AllMarked m lits = All (λ (l : Literal). get_or m l.variable false ≡ true) lits

@@ -1,7 +1,7 @@
 //! What is learned of a conflict: a walk down the trail from the false clause, which puts the
 //! reasons of literals in their place.
 
-ghost use Rattle.std.specs.Prelude.{◌≡◌, ℕ, ◌+◌, ◌-◌, ◌<◌, ◌≤◌, length, All, IfOk, take, true, false, slice_index_or, reverse, List, Option, Some};
+ghost use Rattle.std.specs.Prelude.{◌≡◌, ℕ, ◌+◌, ◌-◌, ◌<◌, ◌≤◌, length, All, IfOk, OnOk, take, true, false, slice_index_or, reverse, List, Option, Some};
 ghost use Rattle.std.specs.Bool.{OnTrue};
 ghost use Rattle.ec_clause.specs.Literal.{Literal};
 ghost use Rattle.ec_clause.specs.Step.{IsStep};
@@ -9,7 +9,7 @@ ghost use Rattle.ec_trail.specs.TrailList.{truth_of, top_level, IsTrail};
 ghost use Rattle.ec_trail.specs.declared.trail.Entry.{Entry as TrailEntry};
 ghost use Rattle.ec_unit.specs.Settling.{IsFalseAt};
 ghost use Rattle.ec_sat.specs.Reasons.{AreReasons, AreQuietBelow, ContainsNone, mark_all, left_of};
-ghost use Rattle.ec_sat.specs.Stops.{Walked, IsLeftBelow, StopsAt};
+ghost use Rattle.ec_sat.specs.Stops.{Walked, IsLeftBelow, StopsAt, IsAsserting, AllMarked};
 
 use ec_clause::clauses::Clauses;
 use ec_clause::lit::Lit;
@@ -113,6 +113,7 @@ fn cut(
     let _known = clauses.len();
     let _few = trail.level();
     let place = walk(clauses, trail, marks, &mut hints, open)?;
+    shorten(clauses, trail, marks, &mut hints, place)?;
     let lits = left(alloc, trail, marks, place + 1)?;
     hints.reverse();
     Ok(Learned { lits, hints })
@@ -158,6 +159,51 @@ fn walk(
         }
     }
     unreachable!()
+}
+
+/// Drops each literal below the first unique implication point whose reason's other literals are
+/// all in the clause. Its reason joins the hints in its place.
+fn shorten(
+    clauses: &Clauses,
+    trail: &Trail,
+    marks: &mut [bool],
+    hints: &mut Vec<u32>,
+    place: u32,
+) -> Result<(), AllocError>
+    requires marks { length marks.old ≡ trail.now.variables + 1 }
+    requires variables { clauses.now.variables ≡ trail.now.variables }
+    requires reasons { AreReasons clauses.now trail.now.variables trail.now.entries }
+    requires stops { StopsAt clauses.now trail.now.variables trail.now.entries marks.old hints.old.items place }
+    ensures { OnOk result (IsAsserting clauses.now trail.now.variables trail.now.entries marks.new hints.new.items place 0) }
+{
+    let _known = clauses.len();
+    let _trail = trail.len();
+    let mut count = place;
+    while count > 0 {
+        count -= 1;
+        let entry = trail.entry(count);
+        if let Some(number) = entry.reason {
+            let variable = entry.lit.variable();
+            if marks[variable as usize] && are_marked(marks, clauses.get(number)) {
+                marks[variable as usize] = false;
+                hints.push(number)?;
+            }
+        }
+    }
+    Ok(())
+}
+
+/// Whether the variables of all literals are marked.
+fn are_marked(marks: &[bool], lits: &[Lit]) -> bool
+    requires { All (λ (l : Literal). l.variable < length marks.now) lits.now }
+    ensures { OnTrue result (AllMarked marks.now lits.now) }
+{
+    for lit in lits {
+        if !marks[lit.variable() as usize] {
+            return false;
+        }
+    }
+    true
 }
 
 /// Marks the variables of a clause, and counts those of a level that were not marked.

@@ -8,6 +8,18 @@ ghost use Rattle.ec_sat.specs.Back.{HasTwo};
 use ec_clause::lit::Lit;
 use ec_trail::trail::Trail;
 
+/// The level that a search goes back to after a clause: 0 where it starts anew, and else that of
+/// `second_level`.
+pub fn return_level(trail: &Trail, lits: &[Lit], anew: bool) -> u32
+    requires { All (λ (l : Literal). l.variable ≤ trail.now.variables) lits.now }
+    ensures low { result ≤ top_level trail.now.entries }
+    ensures trail { IsTrail trail.now.variables trail.now.entries }
+    ensures two { 0 < result → HasTwo trail.now.entries lits.now result }
+{
+    let level = second_level(trail, lits);
+    if anew { 0 } else { level }
+}
+
 /// The level of the second highest literal of a clause, counted by literal; 0 where it has fewer
 /// than two. Of a learned clause this is its assertion level.
 pub fn second_level(trail: &Trail, lits: &[Lit]) -> u32

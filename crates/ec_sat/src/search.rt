@@ -13,8 +13,9 @@ ghost use Rattle.ec_sat.specs.Ready.{IsReady};
 
 use crate::answer::Next;
 use crate::learn::{Learned, learn};
-use crate::level::second_level;
+use crate::level::{return_level, second_level};
 use crate::order::Order;
+use crate::restarts::Restarts;
 use ec_clause::clauses::Clauses;
 use ec_clause::lit::Lit;
 use ec_clause::notes::Notes;
@@ -39,6 +40,7 @@ pub struct Search {
     pub trail: Trail,
     pub watch: Watch,
     pub order: Order,
+    pub restarts: Restarts,
     /// A scratch, one mark a variable.
     pub marks: Vec<bool>,
     /// The number of derived clauses with a literal.
@@ -126,7 +128,7 @@ fn note<N: Notes>(
     }
 }
 
-/// Learns from the false clause of this number, and goes back to the assertion level.
+/// Learns from the false clause of this number, and goes back to the assertion level, or to level 0.
 pub fn resolve<N: Notes>(
     search: &mut Search,
     notes: &mut N,
@@ -156,7 +158,8 @@ pub fn resolve<N: Notes>(
         return Ok(Conflict::Refuted);
     }
     search.derived += 1;
-    let level = second_level(&search.trail, &learned.lits);
+    let anew = search.restarts.count(learned.lits.len());
+    let level = return_level(&search.trail, &learned.lits, anew);
     search
         .order
         .bump(&search.clauses, &learned.lits, &learned.hints);

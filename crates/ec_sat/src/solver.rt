@@ -5,6 +5,7 @@ ghost use Rattle.ec_sat.specs.Run.{value_in};
 
 use crate::answer::{Next, Phase};
 use crate::order::Order;
+use crate::restarts::Restarts;
 use crate::search::{Search, block, run};
 use ec_clause::clauses::Clauses;
 use ec_clause::lit::Lit;
@@ -64,6 +65,7 @@ impl Solver {
                 trail,
                 watch,
                 order,
+                restarts: Restarts::new(),
                 marks,
                 derived: 0,
             },

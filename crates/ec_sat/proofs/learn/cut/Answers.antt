@@ -8,8 +8,8 @@ overflow_add-place c =
 
 pub returns-clause-step : goal.returns-clause-step
 returns-clause-step c =
-    learns_step c.args.clauses.now c.args.trail.now c.walk.new.marks c.walk.new.hints.items c.reverse.new.self.items c.in_ok-place.place c.in_ok-lits.lits.items c.requires.variables c.level-few.ensures.trail c.in_ok-place.ensures c.in_ok-lits.ensures c.reverse.ensures.items
+    learns_step c.args.clauses.now c.args.trail.now c.shorten.new.marks c.shorten.new.hints.items c.reverse.new.self.items c.in_ok-place.place c.in_ok-lits.lits.items c.requires.variables c.level-few.ensures.trail c.in_ok-shorten.ensures c.in_ok-lits.ensures c.reverse.ensures.items
 
 pub returns-clause-none : goal.returns-clause-none
 returns-clause-none c =
-    learns_none c.args.clauses.now c.args.trail.now c.walk.new.marks c.walk.new.hints.items c.in_ok-place.place c.in_ok-lits.lits.items c.requires.variables c.level-few.ensures.trail c.requires.quiet c.len-known.ensures.clauses c.in_ok-place.ensures c.requires.high c.in_ok-lits.ensures
+    learns_none c.args.clauses.now c.args.trail.now c.shorten.new.marks c.shorten.new.hints.items c.in_ok-place.place c.in_ok-lits.lits.items c.requires.variables c.level-few.ensures.trail c.requires.quiet c.len-known.ensures.clauses c.in_ok-shorten.ensures c.requires.high c.in_ok-lits.ensures

@@ -21,7 +21,7 @@ returns-clause-ready g c = λ learned.
     let old = c.args.search.now in
     let lits = c.in_ok-learned.learned.lits.items in
     record {
-      searching = searching_back old.clauses c.note.new.clauses old.trail c.back_to.new.self lits c.second_level-level.result c.requires.ready.searching c.second_level-level.ensures.trail c.note.ensures.variables c.in_ok-note.ensures.ok c.back_to.ensures.variables c.back_to.ensures.entries (λ high. subst (λ (xs : List Literal). HasTwo old.trail.entries xs c.second_level-level.result) c.deref.ensures.value (c.second_level-level.ensures.two high));
+      searching = searching_back old.clauses c.note.new.clauses old.trail c.back_to.new.self lits c.return_level-level.result c.requires.ready.searching c.return_level-level.ensures.trail c.note.ensures.variables c.in_ok-note.ensures.ok c.back_to.ensures.variables c.back_to.ensures.entries (λ high. subst (λ (xs : List Literal). HasTwo old.trail.entries xs c.return_level-level.result) c.deref.ensures.value (c.return_level-level.ensures.two high));
       watched = c.in_ok-note.ensures.watched;
       ordered = c.save.ensures ∙ c.bump.ensures ∙ c.requires.ready.ordered ∙ sym c.back_to.ensures.variables;
       marked = length-lent old.marks.len c.learn.new.marks old.marks.items (c.learn.auto.marks ∙ ap length c.deref_mut.ensures.value) (sym c.deref_mut.ensures.len ∙ ap length c.deref_mut.ensures.value) ∙ c.requires.ready.marked ∙ ap (λ n. n + 1) (sym c.back_to.ensures.variables);
