@@ -46,16 +46,26 @@ pub fn reading(alloc: Global, bytes: &[u8]) -> Result<String, AllocError> {
     }
 }
 
+/// Adds a text that shows bytes and what is read of them, if that isn't what is wanted.
+pub fn push_difference(
+    alloc: Global,
+    out: &mut String,
+    shown: &str,
+    bytes: &[u8],
+    want: &str,
+) -> Result<(), AllocError> {
+    let got = reading(alloc, bytes)?;
+    if got.as_str() == want {
+        return Ok(());
+    }
+    out.push_str(format!(in alloc; "{shown} is read as {got}, not as {want}\n")?.as_str())
+}
+
 /// Each text that isn't read as wanted, and what is read of it.
 pub fn differing(alloc: Global, rows: &[(&str, &str)]) -> Result<String, AllocError> {
     let mut out = String::new(alloc);
     for (text, want) in rows {
-        let got = reading(alloc, text.as_bytes())?;
-        if got.as_str() != *want {
-            out.push_str(text)?;
-            out.push_str(" is read as ")?;
-            out.push_str(got.as_str())?;
-        }
+        push_difference(alloc, &mut out, text, text.as_bytes(), want)?;
     }
     Ok(out)
 }
