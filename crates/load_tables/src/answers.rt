@@ -7,8 +7,14 @@ use ec_syntax::book::{Book, Placed};
 use ec_syntax::statement::Content;
 use std::alloc::{AllocError, Global};
 
-/// Files that hold these texts: each row has a name and a text.
-pub fn held(alloc: Global, rows: &[(&str, &str)]) -> Result<MemFiles, AllocError> {
+/// A file's name and its text.
+pub type Held = (&'static str, &'static str);
+
+/// Files, the root of a book, and what its load answers.
+pub type Case = (&'static [Held], &'static str, &'static str);
+
+/// Files that hold these texts.
+pub fn held(alloc: Global, rows: &[Held]) -> Result<MemFiles, AllocError> {
     let mut files = MemFiles::new(alloc);
     for (name, text) in rows {
         files.hold(name, text.as_bytes())?;
@@ -64,19 +70,14 @@ pub fn answer<F: Files>(alloc: Global, files: &mut F, root: &str) -> Result<Stri
 }
 
 /// The same with files that give at most so many bytes at once.
-fn cut_answer(
-    alloc: Global,
-    rows: &[(&str, &str)],
-    root: &str,
-    most: usize,
-) -> Result<String, AllocError> {
+fn cut_answer(alloc: Global, rows: &[Held], root: &str, most: usize) -> Result<String, AllocError> {
     let files = held(alloc, rows)?;
     let mut files = CutFiles { files, most };
     answer(alloc, &mut files, root)
 }
 
 /// The answer of files that hold these texts, whole or cut in pieces of 1, 2, 3 or 4,096 bytes; or a word where they differ.
-pub fn same_answer(alloc: Global, rows: &[(&str, &str)], root: &str) -> Result<String, AllocError> {
+fn same_answer(alloc: Global, rows: &[Held], root: &str) -> Result<String, AllocError> {
     let whole = answer(alloc, &mut held(alloc, rows)?, root)?;
     for most in [1, 2, 3, 4096] {
         if cut_answer(alloc, rows, root, most)?.as_str() != whole.as_str() {
@@ -84,4 +85,38 @@ pub fn same_answer(alloc: Global, rows: &[(&str, &str)], root: &str) -> Result<S
         }
     }
     Ok(whole)
+}
+
+fn push_held(out: &mut String, rows: &[Held]) -> Result<(), AllocError> {
+    for (name, text) in rows {
+        out.push_str(name)?;
+        out.push_str(": ")?;
+        out.push_str(text)?;
+        out.push('\n')?;
+    }
+    Ok(())
+}
+
+/// Adds an answer behind the one that is wanted, if they differ.
+pub fn push_difference(out: &mut String, want: &str, got: &str) -> Result<bool, AllocError> {
+    if got == want {
+        return Ok(false);
+    }
+    out.push_str(want)?;
+    out.push_str(" is wanted, but the answer is ")?;
+    out.push_str(got)?;
+    out.push('\n')?;
+    Ok(true)
+}
+
+/// The cases with another answer than the one that is wanted, and that answer.
+pub fn differing(alloc: Global, cases: &[Case]) -> Result<String, AllocError> {
+    let mut out = String::new(alloc);
+    for (files, root, want) in cases {
+        let got = same_answer(alloc, files, root)?;
+        if push_difference(&mut out, want, &got)? {
+            push_held(&mut out, files)?;
+        }
+    }
+    Ok(out)
 }
