@@ -25,47 +25,69 @@ fn three_binders(alloc: Global) -> Result<Formula, AllocError>
     for_all(alloc, 6, implies(alloc, some, all)?)
 }
 
+fn written(alloc: Global) -> Result<String, AllocError> {
+    let formula = three_binders(alloc)?;
+    formula_text(alloc, &formula)
+}
+
+/// The formula with both free variables raised by 3.
+fn both_shifted(alloc: Global) -> Result<String, AllocError> {
+    let formula = three_binders(alloc)?;
+    let shifted = shift(alloc, &formula, 0, 3)?;
+    formula_text(alloc, &shifted)
+}
+
+/// The formula with the free variable 1 raised by 3.
+fn last_shifted(alloc: Global) -> Result<String, AllocError> {
+    let formula = three_binders(alloc)?;
+    let shifted = shift(alloc, &formula, 1, 3)?;
+    formula_text(alloc, &shifted)
+}
+
 #[test]
 fn shifts(rt: HostRuntime) -> Result<(), Fail> {
     let alloc = rt.alloc();
-    let formula = three_binders(alloc)?;
-    let text = formula_text(alloc, &formula)?;
     assert_eq!(rt;
-        text.as_str(),
+        written(alloc)?.as_str(),
         "[s6] ({s8} p6(v1, (v0 + v3)) -> [time] HoldsAt(f1(v1, v2), v0))"
     );
-    let all = shift(alloc, &formula, 0, 3)?;
-    let text = formula_text(alloc, &all)?;
     assert_eq!(rt;
-        text.as_str(),
+        both_shifted(alloc)?.as_str(),
         "[s6] ({s8} p6(v1, (v0 + v6)) -> [time] HoldsAt(f1(v1, v5), v0))"
     );
-    let last = shift(alloc, &formula, 1, 3)?;
-    let text = formula_text(alloc, &last)?;
     assert_eq!(rt;
-        text.as_str(),
+        last_shifted(alloc)?.as_str(),
         "[s6] ({s8} p6(v1, (v0 + v6)) -> [time] HoldsAt(f1(v1, v2), v0))"
     );
     Ok(())
+}
+
+/// The formula with an event in place of the free variable 0.
+fn first_substituted(alloc: Global) -> Result<String, AllocError> {
+    let formula = three_binders(alloc)?;
+    let term = event(1, two_terms(alloc, constant(2), variable(0))?);
+    let substituted = substitute(alloc, &formula, 0, &term)?;
+    formula_text(alloc, &substituted)
+}
+
+/// The formula with a sum in place of the free variable 1.
+fn last_substituted(alloc: Global) -> Result<String, AllocError> {
+    let formula = three_binders(alloc)?;
+    let term = sum(alloc, variable(4), int(-7))?;
+    let substituted = substitute(alloc, &formula, 1, &term)?;
+    formula_text(alloc, &substituted)
 }
 
 /// The term's own variables are those outside the formula, so two binders raise them by two.
 #[test]
 fn substitutes(rt: HostRuntime) -> Result<(), Fail> {
     let alloc = rt.alloc();
-    let formula = three_binders(alloc)?;
-    let term = event(1, two_terms(alloc, constant(2), variable(0))?);
-    let first = substitute(alloc, &formula, 0, &term)?;
-    let text = formula_text(alloc, &first)?;
     assert_eq!(rt;
-        text.as_str(),
+        first_substituted(alloc)?.as_str(),
         "[s6] ({s8} p6(v1, (v0 + v2)) -> [time] HoldsAt(f1(v1, e1(c2, v2)), v0))"
     );
-    let term = sum(alloc, variable(4), int(-7))?;
-    let second = substitute(alloc, &formula, 1, &term)?;
-    let text = formula_text(alloc, &second)?;
     assert_eq!(rt;
-        text.as_str(),
+        last_substituted(alloc)?.as_str(),
         "[s6] ({s8} p6(v1, (v0 + (v6 + -7))) -> [time] HoldsAt(f1(v1, v2), v0))"
     );
     Ok(())
