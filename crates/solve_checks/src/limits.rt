@@ -4,47 +4,50 @@ use crate::texts::{CONTRADICTION, TOSS};
 use ec_command::Status;
 use std::test::Fail;
 
+/// Both ways that the coin may lie.
+const BOTH: &str = "model 1:\n\
+    0\n\
+    Happens(Toss(), 0).\n\
+    1\n\
+    ReleasedAt(Up(), 1).\n\
+    P\n\
+    model 2:\n\
+    0\n\
+    Happens(Toss(), 0).\n\
+    1\n\
+    +Up().\n\
+    ReleasedAt(Up(), 1).\n\
+    P\n\
+    limit: models 2\n";
+
+const LIMITS: &[(&str, &str, &str, Status)] = &[
+    // The bound is reached with the last truth: that there are no others isn't said.
+    ("solve t.e l --models 2", TOSS, BOTH, Status::Limit),
+    (
+        "solve t.e l --conflicts 9 --models 2",
+        TOSS,
+        BOTH,
+        Status::Limit,
+    ),
+    (
+        "solve t.e l --conflicts 1",
+        CONTRADICTION,
+        "limit: conflicts 1\n",
+        Status::Limit,
+    ),
+    // There are nine clauses over two variables, the empty one among them.
+    (
+        "solve t.e l --conflicts 9",
+        CONTRADICTION,
+        "complete: 0\n",
+        Status::Complete,
+    ),
+];
+
 #[test]
 fn limits(rt: HostRuntime) -> Result<(), Fail> {
     let alloc = rt.alloc();
-    let both = "model 1:\n\
-        0\n\
-        Happens(Toss(), 0).\n\
-        1\n\
-        ReleasedAt(Up(), 1).\n\
-        P\n\
-        model 2:\n\
-        0\n\
-        Happens(Toss(), 0).\n\
-        1\n\
-        +Up().\n\
-        ReleasedAt(Up(), 1).\n\
-        P\n\
-        limit: models 2\n";
-    let rows: [(&str, &str, &str, Status); 4] = [
-        // The bound is reached with the last truth: that there are no others isn't said.
-        ("solve t.e l --models 2", TOSS, both, Status::Limit),
-        (
-            "solve t.e l --conflicts 9 --models 2",
-            TOSS,
-            both,
-            Status::Limit,
-        ),
-        (
-            "solve t.e l --conflicts 1",
-            CONTRADICTION,
-            "limit: conflicts 1\n",
-            Status::Limit,
-        ),
-        // There are nine clauses over two variables, the empty one among them.
-        (
-            "solve t.e l --conflicts 9",
-            CONTRADICTION,
-            "complete: 0\n",
-            Status::Complete,
-        ),
-    ];
-    for (line, text, want, wanted) in rows {
+    for &(line, text, want, wanted) in LIMITS {
         let (_, out, status) = solved(alloc, line, text)?;
         assert_eq!(rt; status, wanted, "at {line}");
         assert_eq!(rt; out.bytes(), want.as_bytes(), "at {line}");

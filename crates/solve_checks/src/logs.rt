@@ -3,16 +3,17 @@ use crate::solved::solved;
 use ec_command::Status;
 use std::test::Fail;
 
+const LOGS: &[(&str, &str)] = &[
+    // No variable: the one truth has no digit, and the clause that forbids it no literal.
+    ("", "log 1 0 0\nb \nd 0 1 0\nend complete: 1\n"),
+    // A false sentence is a clause without a literal.
+    ("1=2.", "log 1 0 1\nd 0 1 0\nend complete: 0\n"),
+];
+
 #[test]
 fn logs(rt: HostRuntime) -> Result<(), Fail> {
     let alloc = rt.alloc();
-    let rows: [(&str, &str); 2] = [
-        // No variable: the one truth has no digit, and the clause that forbids it no literal.
-        ("", "log 1 0 0\nb \nd 0 1 0\nend complete: 1\n"),
-        // A false sentence is a clause without a literal.
-        ("1=2.", "log 1 0 1\nd 0 1 0\nend complete: 0\n"),
-    ];
-    for (text, want) in rows {
+    for &(text, want) in LOGS {
         let (files, _, status) = solved(alloc, "solve t.e l", text)?;
         assert_eq!(rt; status, Status::Complete, "at {text}");
         let log = files.bytes_of("l").unwrap_or(b"");
