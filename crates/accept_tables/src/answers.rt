@@ -4,7 +4,7 @@ use ec_edge::MemFiles;
 use std::alloc::{AllocError, Global};
 
 /// The answer of the root `r` that holds this text, where no other file is there.
-pub fn answer(alloc: Global, text: &str) -> Result<String, AllocError> {
+fn answer(alloc: Global, text: &str) -> Result<String, AllocError> {
     let mut files = MemFiles::new(alloc);
     files.hold("r", text.as_bytes())?;
     match accept(alloc, &mut files, "r") {
@@ -21,4 +21,16 @@ pub fn answer(alloc: Global, text: &str) -> Result<String, AllocError> {
         Err(AcceptFault::Files) => String::from_str(alloc, "files"),
         Err(AcceptFault::Memory) => Err(AllocError),
     }
+}
+
+/// Each text with another answer than the one that is wanted, and that answer.
+pub fn differing(alloc: Global, rows: &[(&str, &str)]) -> Result<String, AllocError> {
+    let mut out = String::new(alloc);
+    for (text, want) in rows {
+        let got = answer(alloc, text)?;
+        if got.as_str() != *want {
+            out.push_str(format!(in alloc; "{got}, not {want}, at {text}\n")?.as_str())?;
+        }
+    }
+    Ok(out)
 }

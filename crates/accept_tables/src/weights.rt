@@ -33,13 +33,19 @@ event Do(step)
     )
 }
 
+fn weight_of_steps(alloc: Global, count: u32, last: u32) -> Result<Option<u64>, AllocError> {
+    let text = steps(alloc, count, last)?;
+    weight(alloc, &text)
+}
+
+const WAKING: &str =
+    "sort agent\nfluent Awake(agent)\nevent WakeUp(agent)\n[agent,time] Initiates(WakeUp(agent),Awake(agent),time).\nagent James\n!HoldsAt(Awake(James),0).\nDelta: Happens(WakeUp(James),0).\ncompletion Delta Happens\nrange time 0 1\nrange offset 1 1\n";
+
 #[test]
 fn of_files(rt: HostRuntime) -> Result<(), Fail> {
     let alloc = rt.alloc();
-    let waking =
-        "sort agent\nfluent Awake(agent)\nevent WakeUp(agent)\n[agent,time] Initiates(WakeUp(agent),Awake(agent),time).\nagent James\n!HoldsAt(Awake(James),0).\nDelta: Happens(WakeUp(James),0).\ncompletion Delta Happens\nrange time 0 1\nrange offset 1 1\n";
-    assert_eq!(rt; weight(alloc, waking)?, Some(170));
-    assert_eq!(rt; weight(alloc, &steps(alloc, 2, 3)?)?, Some(1077));
-    assert_eq!(rt; weight(alloc, &steps(alloc, 20, 21)?)?, Some(398_355));
+    assert_eq!(rt; weight(alloc, WAKING)?, Some(170));
+    assert_eq!(rt; weight_of_steps(alloc, 2, 3)?, Some(1077));
+    assert_eq!(rt; weight_of_steps(alloc, 20, 21)?, Some(398_355));
     Ok(())
 }
