@@ -20,7 +20,7 @@ fn spelled(alloc: Global, clauses: &Clauses) -> Result<String, AllocError> {
 }
 
 /// The clause list of the root `r` that holds this text, where no other file is there.
-pub fn clause_list(alloc: Global, text: &str) -> Result<String, AllocError> {
+fn clause_list(alloc: Global, text: &str) -> Result<String, AllocError> {
     let mut files = MemFiles::new(alloc);
     files.hold("r", text.as_bytes())?;
     match accept(alloc, &mut files, "r") {
@@ -31,4 +31,16 @@ pub fn clause_list(alloc: Global, text: &str) -> Result<String, AllocError> {
         Err(AcceptFault::Memory) => Err(AllocError),
         Err(_) => String::from_str(alloc, "not accepted"),
     }
+}
+
+/// The texts with another clause list than the one that is wanted, and that list.
+pub fn differing(alloc: Global, rows: &[(&str, &str)]) -> Result<String, AllocError> {
+    let mut out = String::new(alloc);
+    for (text, want) in rows {
+        let list = clause_list(alloc, text)?;
+        if list.as_str() != *want {
+            out.push_str(format!(in alloc; "{list}, not {want}, at {text}\n")?.as_str())?;
+        }
+    }
+    Ok(out)
 }
