@@ -1,104 +1,191 @@
 use super::*;
 use std::test::Fail;
 
-fn atom(atom: u64) -> Prop {
-    Prop::Lit {
-        atom,
-        positive: true,
+/// A part without parts of its own, in a table.
+#[derive(Clone, Copy)]
+enum Leaf {
+    True,
+    False,
+    Atom(u64),
+}
+
+/// A part, in a table.
+enum Part {
+    One(Leaf),
+    And(&'static [Leaf]),
+    Or(&'static [Leaf]),
+}
+
+fn leaf_of(row: Leaf) -> Prop {
+    match row {
+        Leaf::True => Prop::True,
+        Leaf::False => Prop::False,
+        Leaf::Atom(atom) => Prop::Lit {
+            atom,
+            positive: true,
+        },
     }
 }
 
-fn atoms(alloc: Global, numbers: &[u64]) -> Result<Vec<Prop>, AllocError> {
-    numbers.iter().map(|number| atom(*number)).collect(alloc)
+fn leaves_of(alloc: Global, rows: &[Leaf]) -> Result<Vec<Prop>, AllocError> {
+    rows.iter().map(|row| leaf_of(*row)).collect(alloc)
 }
 
-fn and(alloc: Global, numbers: &[u64]) -> Result<Prop, AllocError> {
-    Ok(Prop::And(atoms(alloc, numbers)?))
+fn part_of(alloc: Global, row: &Part) -> Result<Prop, AllocError> {
+    match row {
+        Part::One(row) => Ok(leaf_of(*row)),
+        Part::And(rows) => Ok(Prop::And(leaves_of(alloc, rows)?)),
+        Part::Or(rows) => Ok(Prop::Or(leaves_of(alloc, rows)?)),
+    }
 }
 
-fn or(alloc: Global, numbers: &[u64]) -> Result<Prop, AllocError> {
-    Ok(Prop::Or(atoms(alloc, numbers)?))
+fn parts_of(alloc: Global, rows: &[Part]) -> Result<Vec<Prop>, AllocError> {
+    let mut parts = Vec::new(alloc);
+    for row in rows {
+        parts.push(part_of(alloc, row)?)?;
+    }
+    Ok(parts)
 }
 
-type Case = (&'static str, Vec<Prop>, Prop);
+/// Parts, and what they are joined into.
+type Case = (&'static str, &'static [Part], Part);
 
-fn conj_cases(alloc: Global) -> Result<Vec<Case>, AllocError> {
-    let cases = vec![in alloc;
-        ("no part", vec![in alloc]?, Prop::True),
-        ("one part", atoms(alloc, &[3])?, atom(3)),
-        ("two parts", atoms(alloc, &[1, 0])?, and(alloc, &[1, 0])?),
-        (
-            "True alone",
-            vec![in alloc; Prop::True, Prop::True]?,
-            Prop::True
-        ),
-        ("a True", vec![in alloc; atom(3), Prop::True]?, atom(3)),
-        (
-            "a False",
-            vec![in alloc; atom(0), Prop::False, atom(1)]?,
-            Prop::False
-        ),
-        (
-            "an And",
-            vec![in alloc; atom(2), and(alloc, &[0, 1])?, atom(3)]?,
-            and(alloc, &[2, 0, 1, 3])?
-        ),
-        (
-            "an And alone",
-            vec![in alloc; and(alloc, &[0, 1])?]?,
-            and(alloc, &[0, 1])?
-        ),
-        (
-            "False in an And",
-            vec![in alloc; Prop::And(vec![in alloc; atom(0), Prop::False]?)]?,
-            Prop::False
-        ),
-        (
-            "an Or",
-            vec![in alloc; or(alloc, &[0, 1])?, Prop::True]?,
-            or(alloc, &[0, 1])?
-        ),
-    ]?;
-    Ok(cases)
+const CONJ: &[Case] = &[
+    ("no part", &[], Part::One(Leaf::True)),
+    (
+        "one part",
+        &[Part::One(Leaf::Atom(3))],
+        Part::One(Leaf::Atom(3)),
+    ),
+    (
+        "two parts",
+        &[Part::One(Leaf::Atom(1)), Part::One(Leaf::Atom(0))],
+        Part::And(&[Leaf::Atom(1), Leaf::Atom(0)]),
+    ),
+    (
+        "True alone",
+        &[Part::One(Leaf::True), Part::One(Leaf::True)],
+        Part::One(Leaf::True),
+    ),
+    (
+        "a True",
+        &[Part::One(Leaf::Atom(3)), Part::One(Leaf::True)],
+        Part::One(Leaf::Atom(3)),
+    ),
+    (
+        "a False",
+        &[
+            Part::One(Leaf::Atom(0)),
+            Part::One(Leaf::False),
+            Part::One(Leaf::Atom(1)),
+        ],
+        Part::One(Leaf::False),
+    ),
+    (
+        "an And",
+        &[
+            Part::One(Leaf::Atom(2)),
+            Part::And(&[Leaf::Atom(0), Leaf::Atom(1)]),
+            Part::One(Leaf::Atom(3)),
+        ],
+        Part::And(&[Leaf::Atom(2), Leaf::Atom(0), Leaf::Atom(1), Leaf::Atom(3)]),
+    ),
+    (
+        "an And alone",
+        &[Part::And(&[Leaf::Atom(0), Leaf::Atom(1)])],
+        Part::And(&[Leaf::Atom(0), Leaf::Atom(1)]),
+    ),
+    (
+        "False in an And",
+        &[Part::And(&[Leaf::Atom(0), Leaf::False])],
+        Part::One(Leaf::False),
+    ),
+    (
+        "an Or",
+        &[
+            Part::Or(&[Leaf::Atom(0), Leaf::Atom(1)]),
+            Part::One(Leaf::True),
+        ],
+        Part::Or(&[Leaf::Atom(0), Leaf::Atom(1)]),
+    ),
+];
+
+const DISJ: &[Case] = &[
+    ("no part", &[], Part::One(Leaf::False)),
+    (
+        "one part",
+        &[Part::One(Leaf::Atom(3))],
+        Part::One(Leaf::Atom(3)),
+    ),
+    (
+        "two parts",
+        &[Part::One(Leaf::Atom(1)), Part::One(Leaf::Atom(0))],
+        Part::Or(&[Leaf::Atom(1), Leaf::Atom(0)]),
+    ),
+    (
+        "a False",
+        &[Part::One(Leaf::Atom(3)), Part::One(Leaf::False)],
+        Part::One(Leaf::Atom(3)),
+    ),
+    (
+        "a True",
+        &[
+            Part::One(Leaf::Atom(0)),
+            Part::One(Leaf::True),
+            Part::One(Leaf::Atom(1)),
+        ],
+        Part::One(Leaf::True),
+    ),
+    (
+        "an Or",
+        &[
+            Part::One(Leaf::Atom(2)),
+            Part::Or(&[Leaf::Atom(0), Leaf::Atom(1)]),
+            Part::One(Leaf::Atom(3)),
+        ],
+        Part::Or(&[Leaf::Atom(2), Leaf::Atom(0), Leaf::Atom(1), Leaf::Atom(3)]),
+    ),
+    (
+        "True in an Or",
+        &[Part::Or(&[Leaf::Atom(0), Leaf::True])],
+        Part::One(Leaf::True),
+    ),
+    (
+        "an And",
+        &[
+            Part::And(&[Leaf::Atom(0), Leaf::Atom(1)]),
+            Part::One(Leaf::False),
+        ],
+        Part::And(&[Leaf::Atom(0), Leaf::Atom(1)]),
+    ),
+];
+
+fn joined(alloc: Global, conjunction: bool, rows: &[Part]) -> Result<Prop, AllocError> {
+    let parts = parts_of(alloc, rows)?;
+    if conjunction {
+        conj(parts)
+    } else {
+        disj(parts)
+    }
 }
 
-fn disj_cases(alloc: Global) -> Result<Vec<Case>, AllocError> {
-    let cases = vec![in alloc;
-        ("no part", vec![in alloc]?, Prop::False),
-        ("one part", atoms(alloc, &[3])?, atom(3)),
-        ("two parts", atoms(alloc, &[1, 0])?, or(alloc, &[1, 0])?),
-        ("a False", vec![in alloc; atom(3), Prop::False]?, atom(3)),
-        (
-            "a True",
-            vec![in alloc; atom(0), Prop::True, atom(1)]?,
-            Prop::True
-        ),
-        (
-            "an Or",
-            vec![in alloc; atom(2), or(alloc, &[0, 1])?, atom(3)]?,
-            or(alloc, &[2, 0, 1, 3])?
-        ),
-        (
-            "True in an Or",
-            vec![in alloc; Prop::Or(vec![in alloc; atom(0), Prop::True]?)]?,
-            Prop::True
-        ),
-        (
-            "an And",
-            vec![in alloc; and(alloc, &[0, 1])?, Prop::False]?,
-            and(alloc, &[0, 1])?
-        ),
-    ]?;
-    Ok(cases)
+/// The cases that are joined into something else than what is wanted.
+fn differing(alloc: Global, conjunction: bool, cases: &[Case]) -> Result<String, AllocError> {
+    let mut out = String::new(alloc);
+    for (case, rows, want) in cases {
+        let got = joined(alloc, conjunction, rows)?;
+        let want = part_of(alloc, want)?;
+        if got != want {
+            out.push_str(format!(in alloc; "{case}: {got:?}, not {want:?}\n")?.as_str())?;
+        }
+    }
+    Ok(out)
 }
 
 #[test]
 fn parts_are_joined(rt: HostRuntime) -> Result<(), Fail> {
-    for (case, parts, want) in conj_cases(rt.alloc())? {
-        assert_eq!(rt; conj(parts)?, want, "conj of {case}");
-    }
-    for (case, parts, want) in disj_cases(rt.alloc())? {
-        assert_eq!(rt; disj(parts)?, want, "disj of {case}");
-    }
+    let alloc = rt.alloc();
+    assert_eq!(rt; differing(alloc, true, CONJ)?.as_str(), "");
+    assert_eq!(rt; differing(alloc, false, DISJ)?.as_str(), "");
     Ok(())
 }

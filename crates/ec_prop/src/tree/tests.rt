@@ -30,17 +30,20 @@ fn alternating(alloc: Global, depth: u32, conjunction: bool) -> Result<Prop, All
     })
 }
 
+/// Whether each of three atoms is true, and the tree with them.
+const TRUTHS: &[([bool; 3], bool)] = &[
+    ([true, true, false], true),
+    ([false, true, false], false),
+    ([true, false, false], false),
+    ([false, true, true], true),
+    ([false, false, true], false),
+];
+
 // A formula nests some 400 deep at most, and its tree no deeper.
 #[test]
 fn deep_trees_are_read(rt: HostRuntime) -> Result<(), Fail> {
     let deep = alternating(rt.alloc(), 1000, true)?;
-    for (truth, want) in [
-        ([true, true, false], true),
-        ([false, true, false], false),
-        ([true, false, false], false),
-        ([false, true, true], true),
-        ([false, false, true], false),
-    ] {
+    for &(truth, want) in TRUTHS {
         assert!(rt; true_in(&deep, &truth) == want, "{truth:?}");
     }
     Ok(())
