@@ -107,62 +107,63 @@ mod tests {
         Ok(out)
     }
 
+    const CUTS: &[(&[u8], &str)] = &[
+        (b"", ""),
+        (b" \t\r\n\n", ""),
+        (
+            b"Ab_1 aB_2Z 007",
+            "1 Upper Ab_1\n1 Lower aB_2Z\n1 Number 007\n",
+        ),
+        (b"12ab", "1 Number 12\n1 Lower ab\n"),
+        (b"a\nB ; c\n;\nd", "1 Lower a\n2 Upper B\n4 Lower d\n"),
+        (
+            b"<->-><=>=!=",
+            "1 Sign <->\n1 Sign ->\n1 Sign <=\n1 Sign >=\n1 Sign !=\n",
+        ),
+        (
+            b"<-<--!<=-",
+            "1 Sign <\n1 Sign -\n1 Sign <\n1 Sign -\n1 Sign -\n1 Sign !\n1 Sign <=\n1 Sign -\n",
+        ),
+        (
+            b"[]{}()",
+            "1 Sign [\n1 Sign ]\n1 Sign {\n1 Sign }\n1 Sign (\n1 Sign )\n",
+        ),
+        (
+            b",.:!&|=",
+            "1 Sign ,\n1 Sign .\n1 Sign :\n1 Sign !\n1 Sign &\n1 Sign |\n1 Sign =\n",
+        ),
+        (
+            b"<>+-*",
+            "1 Sign <\n1 Sign >\n1 Sign +\n1 Sign -\n1 Sign *\n",
+        ),
+        (b"load  a/b.e \t; c", "1 Load a/b.e\n"),
+        (
+            b"load lib.e\r\noption a on\nx",
+            "1 Load lib.e\n2 Choice a on\n3 Lower x\n",
+        ),
+        (b"load", "1 Load \n"),
+        (b"load;x\nloads", "1 Load \n2 Lower loads\n"),
+        (b"option\xff", "1 bad 255\n"),
+        (b"load a\rb", "1 bad 13\n"),
+        (b"load a ; \xff\x00\nb", "1 Load a\n2 Lower b\n"),
+        (b"load a\n \x7f", "2 bad 127\n"),
+        (b"a % 1000000001", "1 bad 37\n"),
+        (b"a\n\x00", "2 bad 0\n"),
+        (
+            b"1000000000 0001000000000",
+            "1 Number 1000000000\n1 Number 0001000000000\n",
+        ),
+        (b"1000000001 %", "1 large 1000000001\n"),
+        (
+            b"a\n\n1234567890123456789012345678901234567890",
+            "3 large 1234567890123456789012345678901234567890\n",
+        ),
+        (b"_a", "1 bad 95\n"),
+    ];
+
     #[test]
     fn cuts(rt: HostRuntime) -> Result<(), Fail> {
-        let rows: [(&[u8], &str); 24] = [
-            (b"", ""),
-            (b" \t\r\n\n", ""),
-            (
-                b"Ab_1 aB_2Z 007",
-                "1 Upper Ab_1\n1 Lower aB_2Z\n1 Number 007\n",
-            ),
-            (b"12ab", "1 Number 12\n1 Lower ab\n"),
-            (b"a\nB ; c\n;\nd", "1 Lower a\n2 Upper B\n4 Lower d\n"),
-            (
-                b"<->-><=>=!=",
-                "1 Sign <->\n1 Sign ->\n1 Sign <=\n1 Sign >=\n1 Sign !=\n",
-            ),
-            (
-                b"<-<--!<=-",
-                "1 Sign <\n1 Sign -\n1 Sign <\n1 Sign -\n1 Sign -\n1 Sign !\n1 Sign <=\n1 Sign -\n",
-            ),
-            (
-                b"[]{}()",
-                "1 Sign [\n1 Sign ]\n1 Sign {\n1 Sign }\n1 Sign (\n1 Sign )\n",
-            ),
-            (
-                b",.:!&|=",
-                "1 Sign ,\n1 Sign .\n1 Sign :\n1 Sign !\n1 Sign &\n1 Sign |\n1 Sign =\n",
-            ),
-            (
-                b"<>+-*",
-                "1 Sign <\n1 Sign >\n1 Sign +\n1 Sign -\n1 Sign *\n",
-            ),
-            (b"load  a/b.e \t; c", "1 Load a/b.e\n"),
-            (
-                b"load lib.e\r\noption a on\nx",
-                "1 Load lib.e\n2 Choice a on\n3 Lower x\n",
-            ),
-            (b"load", "1 Load \n"),
-            (b"load;x\nloads", "1 Load \n2 Lower loads\n"),
-            (b"option\xff", "1 bad 255\n"),
-            (b"load a\rb", "1 bad 13\n"),
-            (b"load a ; \xff\x00\nb", "1 Load a\n2 Lower b\n"),
-            (b"load a\n \x7f", "2 bad 127\n"),
-            (b"a % 1000000001", "1 bad 37\n"),
-            (b"a\n\x00", "2 bad 0\n"),
-            (
-                b"1000000000 0001000000000",
-                "1 Number 1000000000\n1 Number 0001000000000\n",
-            ),
-            (b"1000000001 %", "1 large 1000000001\n"),
-            (
-                b"a\n\n1234567890123456789012345678901234567890",
-                "3 large 1234567890123456789012345678901234567890\n",
-            ),
-            (b"_a", "1 bad 95\n"),
-        ];
-        for (text, want) in rows {
+        for &(text, want) in CUTS {
             assert!(rt; text.len() <= 1 << 20);
             let dumped = dump(rt.alloc(), text)?;
             assert_eq!(rt; dumped.as_str(), want);
