@@ -72,26 +72,28 @@ fn stands(rt: &impl Abort, trail: &Trail, rows: &[Row]) {
     }
 }
 
+/// Clauses, what comes of settling them, and the trail then.
+const AT_LEVEL_ZERO: &[(&[&[i32]], Settled, &[Row])] = &[
+    (&[], Settled::Quiet, &[]),
+    (&[&[1, 2], &[-3, 4, 1]], Settled::Quiet, &[]),
+    (&[&[1, 2], &[]], Settled::Conflict(2), &[]),
+    (
+        &[&[3, -2], &[-1, 2], &[1]],
+        Settled::Quiet,
+        &[(1, 0, Some(3)), (2, 0, Some(2)), (3, 0, Some(1))],
+    ),
+    (
+        &[&[1], &[-1, 2], &[-1, -2]],
+        Settled::Conflict(3),
+        &[(1, 0, Some(1)), (2, 0, Some(2))],
+    ),
+    (&[&[-4], &[4]], Settled::Conflict(2), &[(-4, 0, Some(1))]),
+];
+
 #[test]
 fn settles_at_level_zero(rt: HostRuntime) {
     let alloc = rt.alloc();
-    let table: [(&[&[i32]], Settled, &[Row]); 6] = [
-        (&[], Settled::Quiet, &[]),
-        (&[&[1, 2], &[-3, 4, 1]], Settled::Quiet, &[]),
-        (&[&[1, 2], &[]], Settled::Conflict(2), &[]),
-        (
-            &[&[3, -2], &[-1, 2], &[1]],
-            Settled::Quiet,
-            &[(1, 0, Some(3)), (2, 0, Some(2)), (3, 0, Some(1))],
-        ),
-        (
-            &[&[1], &[-1, 2], &[-1, -2]],
-            Settled::Conflict(3),
-            &[(1, 0, Some(1)), (2, 0, Some(2))],
-        ),
-        (&[&[-4], &[4]], Settled::Conflict(2), &[(-4, 0, Some(1))]),
-    ];
-    for (clauses, settled, rows) in table {
+    for &(clauses, settled, rows) in AT_LEVEL_ZERO {
         let clauses = list_of(&rt, alloc, clauses);
         let mut trail = Trail::new(alloc, clauses.variables()).expect(&rt, "memory");
         let mut watch = Watch::new(alloc, &clauses).expect(&rt, "memory");
