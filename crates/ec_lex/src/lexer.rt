@@ -114,6 +114,10 @@ mod tests {
             b"Ab_1 aB_2Z 007",
             "1 Upper Ab_1\n1 Lower aB_2Z\n1 Number 007\n",
         ),
+        (
+            b"Abcdefghijklmno abcdefghijklmnop",
+            "1 Upper Abcdefghijklmno\n1 Lower abcdefghijklmnop\n",
+        ),
         (b"12ab", "1 Number 12\n1 Lower ab\n"),
         (b"a\nB ; c\n;\nd", "1 Lower a\n2 Upper B\n4 Lower d\n"),
         (

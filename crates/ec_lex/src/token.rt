@@ -19,12 +19,13 @@ pub enum Kind {
     Sign,
 }
 
-/// A token: its kind, its word and the line that it stands on, counted from 1.
+/// A token: its word, the line that it stands on, counted from 1, and its kind. In this order a token
+/// takes 32 bytes.
 #[derive(Clone, Debug, PartialEq, Eq, Drop)]
 pub struct Token {
-    pub kind: Kind,
     pub word: Word,
     pub line: u32,
+    pub kind: Kind,
 }
 
 /// Why bytes have no tokens.
