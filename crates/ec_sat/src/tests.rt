@@ -208,20 +208,28 @@ fn solver_of(rt: &impl Abort, alloc: Global, clauses: Clauses, visible: u32) -> 
     Solver::new(alloc, clauses, visible).expect(rt, "memory")
 }
 
+/// No truth of two variables satisfies all of these.
+const CONTRADICTION: &[&[i32]] = &[&[1, 2], &[1, -2], &[-1, 2], &[-1, -2]];
+
+/// A bound on conflicts, how the search ends under it, and how many clauses are derived.
+const LIMITS: &[(u64, Next, u64)] = &[(1, Next::Conflicts, 1), (9, Next::Exhausted, 1)];
+
 #[test]
 fn limits_and_ends(rt: HostRuntime) {
     let alloc = rt.alloc();
-    let rows: [&[i32]; 4] = [&[1, 2], &[1, -2], &[-1, 2], &[-1, -2]];
-    for (limit, answer, derived) in [(1, Next::Conflicts, 1), (9, Next::Exhausted, 1)] {
+    for &(limit, answer, derived) in LIMITS {
+        assert!(rt; 1 <= limit && limit <= 9);
         let mut notes = no_notes(alloc);
-        let mut solver = solver_of(&rt, alloc, list_of(&rt, alloc, 2, &rows), 2);
+        let mut solver = solver_of(&rt, alloc, list_of(&rt, alloc, 2, CONTRADICTION), 2);
         assert!(rt; solver.phase() == Phase::Ready && solver.derived() == 0);
         assert_eq!(rt; solver.next(&mut notes, limit), answer);
         assert_eq!(rt; solver.phase(), Phase::Ended);
         assert_eq!(rt; solver.derived(), derived);
-        replay(&rt, alloc, list_of(&rt, alloc, 2, &rows), &notes);
+        replay(&rt, alloc, list_of(&rt, alloc, 2, CONTRADICTION), &notes);
     }
 }
+
+const IMPLICATIONS: &[&[i32]] = &[&[1, 2], &[-2, 3], &[-2, 4], &[-3, -4]];
 
 /// The search decides -1 and implies 2, 3 and 4; the last clause is false then. 2 is the first
 /// unique implication point, and the decision another one. The clauses that imply 3 and 4 may come
@@ -229,9 +237,8 @@ fn limits_and_ends(rt: HostRuntime) {
 #[test]
 fn learns_at_the_first_implication_point(rt: HostRuntime) {
     let alloc = rt.alloc();
-    let rows: [&[i32]; 4] = [&[1, 2], &[-2, 3], &[-2, 4], &[-3, -4]];
     let mut notes = no_notes(alloc);
-    let mut solver = solver_of(&rt, alloc, list_of(&rt, alloc, 4, &rows), 4);
+    let mut solver = solver_of(&rt, alloc, list_of(&rt, alloc, 4, IMPLICATIONS), 4);
     assert!(rt; solver.phase() == Phase::Ready && solver.derived() == 0);
     assert_eq!(rt; solver.next(&mut notes, 1), Next::Conflicts);
     assert_eq!(rt; notes.notes.len(), 1);
@@ -242,19 +249,21 @@ fn learns_at_the_first_implication_point(rt: HostRuntime) {
     assert!(rt; hints == [2, 3, 4].as_slice() || hints == [3, 2, 4].as_slice());
 }
 
+/// The numbers of variables and of visible ones, clauses, and the models on the visible ones.
+const MODELS: &[(u32, u32, &[&[i32]], &[u32])] = &[
+    (2, 2, &[&[1, 2], &[-1, -2]], &[1, 2]),
+    (3, 1, &[&[1, 2], &[-1, 3], &[-2, -3]], &[0, 1]),
+    (3, 2, &[&[-1], &[1, 2, 3]], &[0, 1]),
+    (2, 0, &[&[1, 2]], &[0]),
+    (0, 0, &[], &[0]),
+    (1, 0, &[&[1], &[-1]], &[]),
+    (3, 3, &[&[2], &[]], &[]),
+];
+
 #[test]
 fn lists_all_models(rt: HostRuntime) {
     let alloc = rt.alloc();
-    let table: [(u32, u32, &[&[i32]], &[u32]); 7] = [
-        (2, 2, &[&[1, 2], &[-1, -2]], &[1, 2]),
-        (3, 1, &[&[1, 2], &[-1, 3], &[-2, -3]], &[0, 1]),
-        (3, 2, &[&[-1], &[1, 2, 3]], &[0, 1]),
-        (2, 0, &[&[1, 2]], &[0]),
-        (0, 0, &[], &[0]),
-        (1, 0, &[&[1], &[-1]], &[]),
-        (3, 3, &[&[2], &[]], &[]),
-    ];
-    for (variables, visible, rows, expected) in table {
+    for &(variables, visible, rows, expected) in MODELS {
         let mut notes = no_notes(alloc);
         let mut solver = solver_of(&rt, alloc, list_of(&rt, alloc, variables, rows), visible);
         let mut found = models(&rt, alloc, &mut solver, &mut notes, visible);
