@@ -106,7 +106,20 @@ fn numbers(rt: HostRuntime) -> Result<(), Fail> {
     Ok(())
 }
 
-/// The effect predicates come after the declared ones.
+/// Predicates, and the numbers of their first atoms: the effect predicates come after the declared ones.
+const FIRST_NUMBERS: &[(u32, u64)] = &[
+    (HOLDS_AT, 0),
+    (RELEASED_AT, 4),
+    (HAPPENS, 8),
+    (INITIATES, 25),
+    (TERMINATES, 37),
+    (RELEASES, 49),
+    (OPEN, 14),
+    (YOUNG, 15),
+    (NEAR, 16),
+    (RARE, 22),
+];
+
 #[test]
 fn first_numbers(rt: HostRuntime) -> Result<(), Fail> {
     let alloc = rt.alloc();
@@ -114,19 +127,7 @@ fn first_numbers(rt: HostRuntime) -> Result<(), Fail> {
     let atoms = Atoms::number(alloc, &theory)?;
     assert_eq!(rt; atoms.visible(), 25);
     assert_eq!(rt; atoms.all(), 61);
-    let rows = [
-        (HOLDS_AT, 0),
-        (RELEASED_AT, 4),
-        (HAPPENS, 8),
-        (INITIATES, 25),
-        (TERMINATES, 37),
-        (RELEASES, 49),
-        (OPEN, 14),
-        (YOUNG, 15),
-        (NEAR, 16),
-        (RARE, 22),
-    ];
-    for (predicate, first) in rows {
+    for &(predicate, first) in FIRST_NUMBERS {
         assert!(rt;
             predicate < theory.signature.predicates(),
             "predicate {predicate}"
