@@ -166,23 +166,94 @@ fn sorts(rt: HostRuntime) -> Result<(), Fail> {
     Ok(())
 }
 
+/// An event, a fluent or a predicate by its number.
+enum Symbol {
+    Predicate(u32),
+    Event(u32),
+    Fluent(u32),
+}
+
+/// Symbols of the small signature with their names and sorts, and which of the fluents are noninertial.
+const SYMBOLS: &[(Symbol, &str)] = &[
+    (Symbol::Predicate(3), "Initiates [4, 5, 2]"),
+    (Symbol::Predicate(6), "Near [6, 8]"),
+    (Symbol::Event(1), "Set [7, 8]"),
+    (Symbol::Fluent(0), "Awake [6] false"),
+    (Symbol::Fluent(1), "Heard [7, 8] true"),
+    (Symbol::Fluent(2), "Dark [] false"),
+];
+
+fn predicate_text(
+    alloc: Global,
+    signature: &Signature,
+    predicate: u32,
+) -> Result<String, AllocError> {
+    if predicate >= signature.predicates() {
+        return String::from_str(alloc, "no predicate");
+    }
+    let name = signature.predicate_name(predicate).text();
+    let sorts = signature.predicate_sorts(predicate);
+    format!(in alloc; "{name} {sorts:?}")
+}
+
+fn event_text(alloc: Global, signature: &Signature, event: u32) -> Result<String, AllocError> {
+    if event >= signature.events() {
+        return String::from_str(alloc, "no event");
+    }
+    let name = signature.event_name(event).text();
+    let sorts = signature.event_sorts(event);
+    format!(in alloc; "{name} {sorts:?}")
+}
+
+fn fluent_text(alloc: Global, signature: &Signature, fluent: u32) -> Result<String, AllocError> {
+    if fluent >= signature.fluents() {
+        return String::from_str(alloc, "no fluent");
+    }
+    let name = signature.fluent_name(fluent).text();
+    let sorts = signature.fluent_sorts(fluent);
+    let noninertial = signature.noninertial(fluent);
+    format!(in alloc; "{name} {sorts:?} {noninertial}")
+}
+
+fn symbol_text(
+    alloc: Global,
+    signature: &Signature,
+    symbol: &Symbol,
+) -> Result<String, AllocError> {
+    match symbol {
+        Symbol::Predicate(predicate) => predicate_text(alloc, signature, *predicate),
+        Symbol::Event(event) => event_text(alloc, signature, *event),
+        Symbol::Fluent(fluent) => fluent_text(alloc, signature, *fluent),
+    }
+}
+
+/// The symbols with another text than the one that is wanted, and that text.
+fn differing_symbols(alloc: Global, signature: &Signature) -> Result<String, AllocError> {
+    let mut out = String::new(alloc);
+    for (symbol, want) in SYMBOLS {
+        let got = symbol_text(alloc, signature, symbol)?;
+        if got.as_str() != *want {
+            out.push_str(format!(in alloc; "{got}, not {want}\n")?.as_str())?;
+        }
+    }
+    Ok(out)
+}
+
+/// The numbers of predicates, events and fluents, and both options.
+fn counts_text(alloc: Global, signature: &Signature) -> Result<String, AllocError> {
+    let predicates = signature.predicates();
+    let events = signature.events();
+    let fluents = signature.fluents();
+    let manual_release = signature.manual_release();
+    let time_diff = signature.time_diff();
+    format!(in alloc; "{predicates} {events} {fluents} {manual_release} {time_diff}")
+}
+
 #[test]
 fn symbols(rt: HostRuntime) -> Result<(), Fail> {
     let alloc = rt.alloc();
     let signature = small_signature(alloc, true)?.copied(alloc)?;
-    assert_eq!(rt; signature.predicates(), 7);
-    assert_eq!(rt; signature.predicate_name(3).text(), "Initiates");
-    assert_eq!(rt; signature.predicate_sorts(3), [4u32, 5, 2].as_slice());
-    assert_eq!(rt; signature.predicate_name(6).text(), "Near");
-    assert_eq!(rt; signature.events(), 2);
-    assert_eq!(rt; signature.event_name(1).text(), "Set");
-    assert_eq!(rt; signature.event_sorts(1), [7u32, 8].as_slice());
-    assert_eq!(rt; signature.fluents(), 3);
-    assert_eq!(rt; signature.fluent_name(2).text(), "Dark");
-    assert_eq!(rt; signature.fluent_sorts(2), [0u32; 0].as_slice());
-    assert_eq!(rt; signature.noninertial(0), false);
-    assert_eq!(rt; signature.noninertial(1), true);
-    assert_eq!(rt; signature.manual_release(), true);
-    assert_eq!(rt; signature.time_diff(), true);
+    assert_eq!(rt; differing_symbols(alloc, &signature)?.as_str(), "");
+    assert_eq!(rt; counts_text(alloc, &signature)?.as_str(), "7 2 3 true true");
     Ok(())
 }
