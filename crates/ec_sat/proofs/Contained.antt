@@ -15,7 +15,8 @@ use Rattle.ec_trail.proofs.TrailLemmas.{value_at}
 use Rattle.ec_trail.proofs.BackTo.{some_entry}
 use Rattle.ec_unit.specs.Settling.{IsQuiet}
 use Rattle.ec_sat.specs.Reasons.{left_of}
-use Rattle.ec_sat.proofs.Walk.{value_where, same_at}
+use Rattle.ec_trail.proofs.Values.{value_where}
+use Rattle.ec_sat.proofs.Walk.{same_at}
 
 -- all literals false, but maybe one that has no value
 pub one_left : (q : Truth) (c : List Literal) (y : Literal) → AllPairs (λ (j k : Literal). j.variable ≢ k.variable) c → ((k : ℕ) (d : Literal) → k < length c → (literal_value q (get_or c k d) ≡ Some false) ⊎ (get_or c k d ≡ y)) → literal_value q y ≡ None → (is_false q c ≡ true) ⊎ (unit_literal q c ≡ Some y)

@@ -8,9 +8,10 @@ use Rattle.ec_clause.specs.Literal.{Literal, opposite}
 use Rattle.ec_clause.specs.ClauseList.{ClauseList, clause_at, IsClause}
 use Rattle.ec_clause.specs.Truth.{Truth, agree, literal_value, with_true, is_false, unit_literal, unit_step, false_step}
 use Rattle.ec_trail.specs.declared.trail.Entry.{Entry}
-use Rattle.ec_trail.specs.TrailList.{add_entry, values_of, IsTrail}
+use Rattle.ec_trail.specs.TrailList.{values_of, IsTrail}
 use Rattle.ec_trail.proofs.TrailLemmas.{value_at}
 use Rattle.ec_trail.proofs.BackTo.{some_entry}
+use Rattle.ec_trail.proofs.Values.{value_where}
 use Rattle.ec_clause.specs.Step.{Fault, NotFalse, Unknown, is_known, unit_or, go_on, hints_fault, all_false, set_false, IsStep}
 use Rattle.ec_clause.proofs.TruthLemmas.{false_parts, unit_parts, each_false}
 use Rattle.ec_clause.proofs.StepLemmas.{fault_more, known, IsClause_push, nothing, none_everywhere}
@@ -42,31 +43,6 @@ sign_false true (Some true) h = cc
 sign_false true (Some false) h = refl
 sign_false false (Some true) h = refl
 sign_false false (Some false) h = cc
-
--- a value of the trail is that of an entry
-pub values_where : (es : List Entry) (p : Truth) (v : ℕ) (b : Bool) (d : Entry) → get_or (fold add_entry p es) v None ≡ Some b → (get_or p v None ≡ Some b) ⊎ ((i : ℕ) × (i < length es) × ((get_or es i d).lit.variable ≡ v) × ((get_or es i d).lit.positive ≡ b))
-values_where [] p v b d h = inl h
-values_where (e ∷ es) p v b d h =
-    elim (values_where es (add_entry p e) v b d h) [
-      | inl here ↦ elim (cases_eq v e.lit.variable) [
-        | inl same ↦ elim (cases_lt e.lit.variable (length p)) [
-          | inl lt ↦ (
-              let at : Some e.lit.positive ≡ Some b = sym (get_or-set_same p e.lit.variable (Some e.lit.positive) None lt) ∙ (rw same at here) in
-              let sign : e.lit.positive ≡ b = cc in
-              inr (0, omega arith, sym same, sign))
-          | inr ge ↦ inl (rw (set_past p e.lit.variable (Some e.lit.positive) ge) at here)
-        ]
-        | inr ne ↦ inl (sym (get_or-set_other p e.lit.variable v (Some e.lit.positive) None ne) ∙ here)
-      ]
-      | inr w ↦ inr (suc w.0, omega (arith, w.1), w.2, w.3)
-    ]
-
-pub value_where : (n : ℕ) (es : List Entry) (v : ℕ) (b : Bool) (d : Entry) → get_or (values_of n es) v None ≡ Some b → (i : ℕ) × (i < length es) × ((get_or es i d).lit.variable ≡ v) × ((get_or es i d).lit.positive ≡ b)
-value_where n es v b d h =
-    elim (values_where es (replicate (n + 1) None) v b d h) [
-      | inl there ↦ absurd (let none = none_everywhere (n + 1) v in cc)
-      | inr w ↦ w
-    ]
 
 -- what is false stays false where each literal does
 pub false_moves : (q p : Truth) (c : List Literal) → ((k : ℕ) (d : Literal) → k < length c → literal_value q (get_or c k d) ≡ Some false → literal_value p (get_or c k d) ≡ Some false) → is_false q c ≡ true → is_false p c ≡ true

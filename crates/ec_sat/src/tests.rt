@@ -3,6 +3,7 @@
 ghost use Rattle.std.specs.Prelude.{◌≡◌};
 
 use crate::answer::{Next, Phase};
+use crate::restarts::Restarts;
 use crate::solver::Solver;
 use ec_clause::clauses::{Clauses, is_clause};
 use ec_clause::lit::Lit;
@@ -247,6 +248,19 @@ fn learns_at_the_first_implication_point(rt: HostRuntime) {
     let hints = noted.hints.as_ref().expect(&rt, "hints");
     let hints = hints.as_slice();
     assert!(rt; hints == [2, 3, 4].as_slice() || hints == [3, 2, 4].as_slice());
+}
+
+/// After a hundred clauses of ten literals the mean of late passes that of all by three tenths at the
+/// fourth clause of thirty, and the search starts anew again ten clauses later.
+#[test]
+fn starts_anew_where_clauses_have_become_long(rt: HostRuntime) {
+    let mut restarts = Restarts::new();
+    for _ in 0..100 {
+        assert!(rt; !restarts.count(10));
+    }
+    for place in 1..15 {
+        assert_eq!(rt; restarts.count(30), place == 4 || place == 14);
+    }
 }
 
 /// The numbers of variables and of visible ones, clauses, and the models on the visible ones.
