@@ -102,21 +102,40 @@ pigeons() {
         'In(pigeon1,hole) & In(pigeon2,hole) -> pigeon1=pigeon2.'
 }
 
+# So many constants, and sentences about all of them.
+constants() {
+    awk -v constants="$1" 'BEGIN {
+        printf "sort a\npredicate P(a)\npredicate Q(a)\na C0"
+        for (i = 1; i < constants; i++) printf ",C%d", i
+        printf "\n[a] P(a) -> Q(a).\n[a] Q(a).\n[a] P(a).\n"
+    }'
+}
+
 for n in 10 20 30 40; do
     steps "$n" >"$folder/steps$n"
 done
+for n in 5000 20000; do
+    constants "$n" >"$folder/constants$n"
+done
 coins >"$folder/coins"
-delivery 10 >"$folder/delivery"
+for n in 10 14; do
+    delivery "$n" >"$folder/delivery$n"
+done
 corridor 34 >"$folder/corridor"
 pigeons 7 >"$folder/pigeons"
 
 for n in 20 40; do
     measure "show, $n steps" show "$folder/steps$n"
 done
+for n in 5000 20000; do
+    measure "show, $n constants" show "$folder/constants$n"
+done
 for n in 10 20 30 40; do
     measure "solve, $n steps" solve "$folder/steps$n" "$folder/log"
 done
 measure "solve, 13 coins" solve "$folder/coins" "$folder/log" --models 10000
 measure "solve, a corridor" solve "$folder/corridor" "$folder/log"
-measure "solve, a delivery" solve "$folder/delivery" "$folder/log"
+for n in 10 14; do
+    measure "solve, $n places" solve "$folder/delivery$n" "$folder/log"
+done
 measure "solve, 8 pigeons" solve "$folder/pigeons" "$folder/log"
