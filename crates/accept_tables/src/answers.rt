@@ -1,4 +1,5 @@
 //! What a root file comes to, as text.
+use differences::push_difference;
 use ec_accept::{AcceptFault, accept};
 use ec_edge::MemFiles;
 use std::alloc::{AllocError, Global};
@@ -28,9 +29,7 @@ pub fn differing(alloc: Global, rows: &[(&str, &str)]) -> Result<String, AllocEr
     let mut out = String::new(alloc);
     for (text, want) in rows {
         let got = answer(alloc, text)?;
-        if got.as_str() != *want {
-            out.push_str(format!(in alloc; "{got}, not {want}, at {text}\n")?.as_str())?;
-        }
+        push_difference(&mut out, text, want, &got)?;
     }
     Ok(out)
 }

@@ -15,5 +15,3 @@ pub mod lit;
 pub mod look;
 pub mod notes;
 pub mod step;
-#[cfg(test)]
-mod tests;

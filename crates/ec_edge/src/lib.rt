@@ -35,6 +35,3 @@ pub use mem_sink::MemSink;
 pub use numbers::{push_number, read_number};
 pub use sink::Sink;
 pub use whole::{Whole, read_whole};
-
-#[cfg(test)]
-mod tests;

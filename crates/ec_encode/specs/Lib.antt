@@ -1,3 +1,2 @@
 pub mod Cnf
 pub mod Names
-pub mod Sample

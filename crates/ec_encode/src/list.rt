@@ -58,6 +58,3 @@ pub fn encode(alloc: Global, grounded: &Grounded, visible: u32) -> Result<Cnf, A
         visible,
     })
 }
-
-#[cfg(test)]
-mod tests;

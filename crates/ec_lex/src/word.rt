@@ -70,10 +70,7 @@ impl Word {
     pub fn text(&self) -> &str
         ensures { result.now ≡ self.now }
     {
-        let Ok(text) = std::str::from_utf8(self.text.bytes()) else {
-            unreachable!()
-        };
-        text
+        self.text.text()
     }
 }
 
@@ -88,6 +85,27 @@ impl Text {
             Text::Heap(text) => text.as_bytes(),
         }
     }
+
+    fn text(&self) -> &str
+        requires { IsText self.now }
+        ensures { result.now ≡ bytes_of self.now }
+    {
+        match self {
+            Text::Inline { bytes, len } => inline_text(&bytes[..*len as usize]),
+            Text::Heap(text) => text.as_str(),
+        }
+    }
+}
+
+/// These bytes as text, which the word's invariant says they are.
+fn inline_text(bytes: &[u8]) -> &str
+    requires { IsUtf8 bytes.now }
+    ensures { result.now ≡ bytes.now }
+{
+    let Ok(text) = std::str::from_utf8(bytes) else {
+        unreachable!()
+    };
+    text
 }
 
 /// These bytes within the word.

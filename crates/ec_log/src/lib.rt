@@ -24,6 +24,3 @@ pub use endings::{push_ending, read_ending};
 pub use line::{Line, LineFault};
 pub use read::read_line;
 pub use writer::{WriteFault, Writer};
-
-#[cfg(test)]
-mod tests;

@@ -141,6 +141,3 @@ pub fn disj(parts: Vec<Prop>) -> Result<Prop, AllocError>
     let prop = join(false, parts)?;
     Ok(prop)
 }
-
-#[cfg(test)]
-mod tests;

@@ -67,6 +67,3 @@ fn some_true_in(parts: &[Prop], truth: &[bool]) -> bool
     }
     false
 }
-
-#[cfg(test)]
-mod tests;

@@ -7,7 +7,7 @@
 //! that stands before it, that a model satisfies all clauses, and that the search is exhausted
 //! exactly where the empty clause was derived. What is decided next is free of all this.
 //!
-//! It stands on `ec_clause` (clauses, steps, notes), `ec_trail` and `ec_unit`.
+//! It stands on `ec_clause` (clauses, steps, notes), `ec_restarts`, `ec_trail` and `ec_unit`.
 #![tactic(auto)]
 
 pub mod answer;
@@ -15,8 +15,5 @@ mod heap;
 mod learn;
 mod level;
 mod order;
-mod restarts;
 mod search;
 pub mod solver;
-#[cfg(test)]
-mod tests;

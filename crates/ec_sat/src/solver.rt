@@ -5,11 +5,11 @@ ghost use Rattle.ec_sat.specs.Run.{value_in};
 
 use crate::answer::{Next, Phase};
 use crate::order::Order;
-use crate::restarts::Restarts;
 use crate::search::{Search, block, run};
 use ec_clause::clauses::Clauses;
 use ec_clause::lit::Lit;
 use ec_clause::notes::Notes;
+use ec_restarts::restarts::Restarts;
 use ec_trail::trail::Trail;
 use ec_unit::watch::Watch;
 use std::alloc::{AllocError, Global};

@@ -7,6 +7,4 @@
 //! It stands on `ec_clause`, for literals and partial truths.
 #![tactic(auto)]
 
-#[cfg(test)]
-mod tests;
 pub mod trail;

@@ -16,7 +16,5 @@
 mod chains;
 mod seen;
 mod table;
-#[cfg(test)]
-mod tests;
 mod visit;
 pub mod watch;

@@ -1,4 +1,5 @@
 //! Clause lists as text.
+use differences::push_difference;
 use ec_accept::{AcceptFault, accept};
 use ec_clause::clauses::Clauses;
 use ec_edge::MemFiles;
@@ -38,9 +39,7 @@ pub fn differing(alloc: Global, rows: &[(&str, &str)]) -> Result<String, AllocEr
     let mut out = String::new(alloc);
     for (text, want) in rows {
         let list = clause_list(alloc, text)?;
-        if list.as_str() != *want {
-            out.push_str(format!(in alloc; "{list}, not {want}, at {text}\n")?.as_str())?;
-        }
+        push_difference(&mut out, text, want, &list)?;
     }
     Ok(out)
 }

@@ -1,5 +1,6 @@
 //! What a load answers, as text.
 use crate::cut_files::CutFiles;
+use differences::push_difference;
 use ec_edge::{Files, MemFiles};
 use ec_lex::word::Word;
 use ec_load::{LoadFault, load};
@@ -97,26 +98,15 @@ fn push_held(out: &mut String, rows: &[Held]) -> Result<(), AllocError> {
     Ok(())
 }
 
-/// Adds an answer behind the one that is wanted, if they differ.
-pub fn push_difference(out: &mut String, want: &str, got: &str) -> Result<bool, AllocError> {
-    if got == want {
-        return Ok(false);
-    }
-    out.push_str(want)?;
-    out.push_str(" is wanted, but the answer is ")?;
-    out.push_str(got)?;
-    out.push('\n')?;
-    Ok(true)
-}
-
 /// The cases with another answer than the one that is wanted, and that answer.
 pub fn differing(alloc: Global, cases: &[Case]) -> Result<String, AllocError> {
     let mut out = String::new(alloc);
     for (files, root, want) in cases {
         let got = same_answer(alloc, files, root)?;
-        if push_difference(&mut out, want, &got)? {
+        if got.as_str() != *want {
             push_held(&mut out, files)?;
         }
+        push_difference(&mut out, root, want, &got)?;
     }
     Ok(out)
 }

@@ -1,5 +1,6 @@
 //! First faults, in their order.
-use crate::answers::{Case, Held, answer, differing, held, push_difference};
+use crate::answers::{Case, Held, answer, differing, held};
+use differences::push_difference;
 use std::alloc::{AllocError, Global};
 use std::test::Fail;
 
@@ -94,9 +95,8 @@ fn differing_failures(alloc: Global) -> Result<String, AllocError> {
     let mut out = String::new(alloc);
     for (piece, want) in FAILING {
         let got = failing_answer(alloc, *piece)?;
-        if push_difference(&mut out, want, &got)? {
-            out.push_str(format!(in alloc; "at {piece}\n")?.as_str())?;
-        }
+        let row = format!(in alloc; "piece {piece}")?;
+        push_difference(&mut out, &row, want, &got)?;
     }
     Ok(out)
 }

@@ -1,5 +1,6 @@
 //! The bounds of a book's files and their sizes.
-use crate::answers::{answer, push_difference};
+use crate::answers::answer;
+use differences::push_difference;
 use ec_edge::MemFiles;
 use std::alloc::{AllocError, Global};
 use std::test::Fail;
@@ -95,7 +96,7 @@ fn differing_sizes(alloc: Global) -> Result<String, AllocError> {
     let mut out = String::new(alloc);
     for (end, root, want) in BYTES {
         let got = large_answer(alloc, end, root)?;
-        push_difference(&mut out, want, &got)?;
+        push_difference(&mut out, root, want, &got)?;
     }
     Ok(out)
 }

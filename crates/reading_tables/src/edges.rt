@@ -1,5 +1,6 @@
 //! The bounds of depth, of numbers and of bytes.
-use crate::readings::push_difference;
+use crate::readings::reading;
+use differences::push_difference;
 use std::alloc::{AllocError, Global};
 use std::test::Fail;
 
@@ -20,7 +21,8 @@ fn differing_pieces(alloc: Global, rows: &[(Pieces, Pieces)]) -> Result<String, 
     for (text, want) in rows {
         let text = repeated(alloc, text)?;
         let want = repeated(alloc, want)?;
-        push_difference(alloc, &mut out, &text, text.as_bytes(), &want)?;
+        let got = reading(alloc, text.as_bytes())?;
+        push_difference(&mut out, &text, &want, &got)?;
     }
     Ok(out)
 }
@@ -94,7 +96,8 @@ fn push_repeated(
 ) -> Result<(), AllocError> {
     let signs = sign.repeat(alloc, times)?;
     let text = format!(in alloc; "P {signs}.")?;
-    push_difference(alloc, out, &text, text.as_bytes(), want)
+    let got = reading(alloc, text.as_bytes())?;
+    push_difference(out, &text, want, &got)
 }
 
 fn differing_signs(alloc: Global) -> Result<String, AllocError> {
@@ -143,7 +146,8 @@ fn differing_bytes(alloc: Global, rows: &[(&[u8], &str)]) -> Result<String, Allo
     let mut out = String::new(alloc);
     for (bytes, want) in rows {
         let shown = format!(in alloc; "{bytes:?}")?;
-        push_difference(alloc, &mut out, &shown, bytes, want)?;
+        let got = reading(alloc, bytes)?;
+        push_difference(&mut out, &shown, want, &got)?;
     }
     Ok(out)
 }

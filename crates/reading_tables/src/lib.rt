@@ -12,4 +12,6 @@ mod read;
 #[cfg(test)]
 mod readings;
 #[cfg(test)]
+mod tokens;
+#[cfg(test)]
 mod trees;

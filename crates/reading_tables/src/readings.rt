@@ -1,5 +1,6 @@
 //! What is read of bytes, as text: a line for each statement, or one for the first fault.
 use crate::contents::push_content;
+use differences::push_difference;
 use ec_lex::lexer::tokens;
 use ec_lex::token::{LexFault, Token};
 use ec_parse::fault::ParseFault;
@@ -46,26 +47,12 @@ pub fn reading(alloc: Global, bytes: &[u8]) -> Result<String, AllocError> {
     }
 }
 
-/// Adds a text that shows bytes and what is read of them, if that isn't what is wanted.
-pub fn push_difference(
-    alloc: Global,
-    out: &mut String,
-    shown: &str,
-    bytes: &[u8],
-    want: &str,
-) -> Result<(), AllocError> {
-    let got = reading(alloc, bytes)?;
-    if got.as_str() == want {
-        return Ok(());
-    }
-    out.push_str(format!(in alloc; "{shown} is read as {got}, not as {want}\n")?.as_str())
-}
-
 /// Each text that isn't read as wanted, and what is read of it.
 pub fn differing(alloc: Global, rows: &[(&str, &str)]) -> Result<String, AllocError> {
     let mut out = String::new(alloc);
     for (text, want) in rows {
-        push_difference(alloc, &mut out, text, text.as_bytes(), want)?;
+        let got = reading(alloc, text.as_bytes())?;
+        push_difference(&mut out, text, want, &got)?;
     }
     Ok(out)
 }

@@ -1,5 +1,6 @@
 //! Texts and the first fault of their sentences, worked out by hand.
 use crate::counting::are_few;
+use differences::push_difference;
 use ec_lex::lexer::tokens;
 use ec_names::Names;
 use ec_parse::statements::statements;
@@ -70,9 +71,7 @@ fn differing(alloc: Global, rows: &[(&str, &str)]) -> Result<String, AllocError>
     let mut out = String::new(alloc);
     for (sentence, want) in rows {
         let found = told_of(alloc, sentence)?;
-        if found.as_str() != *want {
-            out.push_str(format!(in alloc; "{found}, not {want}, at {sentence}\n")?.as_str())?;
-        }
+        push_difference(&mut out, sentence, want, &found)?;
     }
     Ok(out)
 }

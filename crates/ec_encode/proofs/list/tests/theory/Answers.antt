@@ -1,8 +1,0 @@
-use Rattle.std.proofs.Common.{ap}
-use Rattle.ec_prop.specs.Prop.{tree_of, trees_of}
-use Rattle.ec_prop.specs.Grounded.{definitions_of}
-use Rattle.ec_encode.proofs.Samples.{sampled}
-use Rattle.ec_encode.proofs.list.tests.theory.Goals as goal
-
-pub returns : goal.returns
-returns c = sampled _ (tree_of c.args.sentence) c.requires (ap trees_of c.in_ok-sentences.ensures.items) (ap definitions_of c.new-definitions.ensures.items) c.in_ok-variables.ensures.items

@@ -1,0 +1,15 @@
+//! What literals, clause lists, trails, watches and searches answer, worked by hand. It holds tests alone.
+#![tactic(auto)]
+
+#[cfg(test)]
+mod clauses;
+#[cfg(test)]
+mod literals;
+#[cfg(test)]
+mod replays;
+#[cfg(test)]
+mod searches;
+#[cfg(test)]
+mod trails;
+#[cfg(test)]
+mod watches;
