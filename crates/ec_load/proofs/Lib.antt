@@ -1,4 +1,5 @@
 pub mod Digits
+pub mod Gathers
 pub mod Lexed
 pub mod Named
 pub mod One

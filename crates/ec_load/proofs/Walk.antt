@@ -27,6 +27,9 @@ put-put xs ys (Err e) = refl
 
 -- ---- one statement
 
+pub own_is_last : (before after : List Placed) (at : ℕ) (same s : Statement) → same ≡ s → after ≡ before ++ placed_at at same ∷ [] → after ≡ before ++ placed_at at s ∷ []
+own_is_last before after at same s is h = subst (λ (t : Statement). after ≡ before ++ placed_at at t ∷ []) is h
+
 pub steps_own : (held : List ℕ → Option (List ℕ)) (at : ℕ) (file : List ℕ) (s : Statement) (old new : Book) → load_of s.content ≡ None → new.files ≡ old.files → new.statements ≡ old.statements ++ placed_at at s ∷ [] → Steps held at file s old new
 steps_own held at file s old new n same is = record {
   added = placed_at at s ∷ [];

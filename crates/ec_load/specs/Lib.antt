@@ -4,3 +4,4 @@ pub mod Book
 pub mod Sound
 pub mod Gathered
 pub mod Answers
+pub mod Part

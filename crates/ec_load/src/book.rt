@@ -15,25 +15,16 @@ ghost use Rattle.ec_load.specs.Answers.{Answers, Walks, StepsTo, FailsByCause, s
 use crate::fault::LoadFault;
 use crate::gathering::Gathering;
 use crate::opening::opened;
+use crate::part::{Part, part_of};
 use crate::refusals::{copied, refused_file};
 use ec_edge::Files;
 use ec_lex::word::Word;
 use ec_syntax::book::Book;
-use ec_syntax::statement::{Content, Statement};
+use ec_syntax::statement::Statement;
 use std::alloc::Global;
 
 /// A book has at most so many files.
 const MOST_FILES: u32 = 64;
-
-/// The file that a statement loads, if it is a load.
-fn loaded_by(statement: &Statement) -> Option<&Word>
-    ensures { option_map (λ file. file.now) result ≡ load_of (statement_of statement.now).content }
-{
-    match &statement.content {
-        Content::Load(file) => Some(file),
-        _ => None,
-    }
-}
 
 /// Adds a file that is asked for at a line of another file, and what it loads.
 ///
@@ -95,14 +86,14 @@ fn add_statement<F: Files>(
     ensures faults { F.faults files.old ≤ F.faults files.new }
     ensures absences { F.absences files.old ≤ F.absences files.new }
 {
-    match loaded_by(&statement) {
-        Some(other) => {
-            if book.passes(other) {
+    match part_of(statement) {
+        Part::Load { line, file: other } => {
+            if book.passes(&other) {
                 return Ok(());
             }
-            add_file(alloc, files, book, file, statement.line, other)
+            add_file(alloc, files, book, file, line, &other)
         }
-        None => {
+        Part::Own(statement) => {
             book.add(number, statement)?;
             Ok(())
         }

@@ -15,6 +15,7 @@ mod book;
 mod fault;
 mod gathering;
 mod opening;
+mod part;
 mod refusals;
 
 pub use book::{load, one_book};

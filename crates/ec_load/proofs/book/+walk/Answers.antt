@@ -1,4 +1,4 @@
-use Rattle.std.proofs.Common.{◌≡◌, ◌≤◌, ◌<◌, List, [], ◌∷◌, IsTrue, All, length, map, refl, sym, ap, ◌∙◌, arith, subst}
+use Rattle.std.proofs.Common.{◌≡◌, ◌≤◌, ◌<◌, List, [], ◌∷◌, ◌++◌, IsTrue, All, length, map, refl, sym, ap, ◌∙◌, arith, subst}
 use Rattle.std.specs.Vec.Iter.{into_iter_items}
 use Rattle.std.proofs.lemmas.List.Elements.{All-head, All-tail}
 use Rattle.std.proofs.lemmas.Result.{err_from_is_err_and}
@@ -7,11 +7,11 @@ use Rattle.ec_syntax.specs.declared.statement.Statement as rust
 use Rattle.ec_syntax.specs.View.{statement_of}
 use Rattle.ec_syntax.specs.Written.{Placed}
 use Rattle.ec_load.specs.Refusals.{refused, in_file}
-use Rattle.ec_load.specs.Book.{Loads, many}
+use Rattle.ec_load.specs.Book.{Loads, many, placed_at}
 use Rattle.ec_load.specs.Gathered.{gathered}
 use Rattle.ec_load.specs.Sound.{AreNamed, counted, counted_placed}
 use Rattle.ec_load.specs.Answers.{statements_of}
-use Rattle.ec_load.proofs.Walk.{SoFar, walks_refused, opened_fails, opened_walks, steps_own, steps_passed, steps_loaded, so_far_begins, so_far_steps, so_far_ends, so_far_fails, counted_own, nothing_left}
+use Rattle.ec_load.proofs.Walk.{SoFar, walks_refused, opened_fails, opened_walks, own_is_last, steps_own, steps_passed, steps_loaded, so_far_begins, so_far_steps, so_far_ends, so_far_fails, counted_own, nothing_left}
 use Rattle.ec_load.proofs.book.+walk.Goals as goal
 
 pub add_file-returns-then-number-ge-MOST_FILES-clause-comes : goal.add_file-returns-then-number-ge-MOST_FILES-clause-comes
@@ -39,19 +39,21 @@ add_file-returns-clause-comes g t c = λ told held stays.
 
 pub add_statement-returns-then-passes-clause-comes : goal.add_statement-returns-then-passes-clause-comes
 add_statement-returns-then-passes-clause-comes g t c = λ told held stays.
-    steps_passed held c.args.number c.args.file.now c.in-Some.other.now (statement_of c.args.statement) (gathered c.args.book.now) (sym c.in-Some.ensures) (sym c.passes.ensures ∙ c.if-passes.true)
+    steps_passed held c.args.number c.args.file.now c.in-Load.other (statement_of c.args.statement) (gathered c.args.book.now) c.in-Load.ensures.0 (sym c.passes.ensures ∙ c.if-passes.true)
 
 pub add_statement-returns-else-passes-clause-comes : goal.add_statement-returns-else-passes-clause-comes
 add_statement-returns-else-passes-clause-comes g t c = λ told held stays.
-    steps_loaded held c.args.number c.args.file.now c.in-Some.other.now (statement_of c.args.statement) (gathered c.args.book.now) (gathered c.add_file.new.book) (sym c.in-Some.ensures) (sym c.passes.ensures ∙ c.if-passes.false) c.add_file.result (c.add_file.ensures.comes told held stays)
+    steps_loaded held c.args.number c.args.file.now c.in-Load.other (statement_of c.args.statement) (gathered c.args.book.now) (gathered c.add_file.new.book) c.in-Load.ensures.0 (sym c.passes.ensures ∙ c.if-passes.false) c.add_file.result (rw c.in-Load.ensures.1 (c.add_file.ensures.comes told held stays))
 
-pub add_statement-returns-in_ok-add-in-None-clause-comes : goal.add_statement-returns-in_ok-add-in-None-clause-comes
-add_statement-returns-in_ok-add-in-None-clause-comes g t c = λ told held stays.
-    steps_own held c.args.number c.args.file.now (statement_of c.args.statement) (gathered c.args.book.now) (gathered c.add.new.self) (sym c.in-None.ensures) c.in_ok-add-in-None.ensures.files c.in_ok-add-in-None.ensures.statements
+pub add_statement-returns-in_ok-add-in-Own-clause-comes : goal.add_statement-returns-in_ok-add-in-Own-clause-comes
+add_statement-returns-in_ok-add-in-Own-clause-comes g t c = λ told held stays.
+    steps_own held c.args.number c.args.file.now (statement_of c.args.statement) (gathered c.args.book.now) (gathered c.add.new.self) c.in-Own.ensures.0 c.in_ok-add-in-Own.ensures.files (own_is_last (gathered c.args.book.now).statements (gathered c.add.new.self).statements c.args.number (statement_of c.in-Own.statement) (statement_of c.args.statement) c.in-Own.ensures.1 c.in_ok-add-in-Own.ensures.statements)
 
-pub add_statement-returns-in_ok-add-in-None-clause-few : goal.add_statement-returns-in_ok-add-in-None-clause-few
-add_statement-returns-in_ok-add-in-None-clause-few g t c =
-    omega (arith, ap (λ (xs : List Placed). counted_placed xs) c.in_ok-add-in-None.ensures.statements, counted_own (gathered c.args.book.now).statements c.args.number (statement_of c.args.statement), ap length c.in_ok-add-in-None.ensures.files)
+pub add_statement-returns-in_ok-add-in-Own-clause-few : goal.add_statement-returns-in_ok-add-in-Own-clause-few
+add_statement-returns-in_ok-add-in-Own-clause-few g t c =
+    let last : (gathered c.add.new.self).statements ≡ (gathered c.args.book.now).statements ++ placed_at c.args.number (statement_of c.args.statement) ∷ [] =
+    own_is_last (gathered c.args.book.now).statements (gathered c.add.new.self).statements c.args.number (statement_of c.in-Own.statement) (statement_of c.args.statement) c.in-Own.ensures.1 c.in_ok-add-in-Own.ensures.statements in
+    omega (arith, ap (λ (xs : List Placed). counted_placed xs) last, counted_own (gathered c.args.book.now).statements c.args.number (statement_of c.args.statement), ap length c.in_ok-add-in-Own.ensures.files)
 
 pub add_statements-loop-statement-init : goal.add_statements-loop-statement-init
 add_statements-loop-statement-init g t c =
