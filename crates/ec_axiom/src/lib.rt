@@ -6,6 +6,7 @@
 
 mod changing;
 mod dec;
+mod later;
 mod parts;
 mod release;
 mod staying;

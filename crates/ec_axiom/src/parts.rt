@@ -1,11 +1,11 @@
 //! The atoms of the axioms. A variable is the number of binders between itself and its own.
 ghost use Rattle.std.specs.Prelude.{◌≡◌, IfOk};
-ghost use Rattle.ec_logic.specs.Tree.{variable as variable_tree, negation};
+ghost use Rattle.ec_logic.specs.Tree.{variable as variable_tree};
 ghost use Rattle.ec_logic.specs.Axiom.{next, HoldsAt, ReleasedAt, Happens, Effect, either, every_fluent, every_event};
 ghost use Rattle.ec_logic.specs.Signature.{initiates, terminates};
 ghost use Rattle.ec_theory.specs.View.{formula_tree, term_tree};
 
-use ec_building::{any_of_two, atom, for_all, int, not, sum, three_terms, two_terms, variable};
+use ec_building::{any_of_two, atom, for_all, int, sum, three_terms, two_terms, variable};
 use ec_theory::{Formula, Term};
 use std::alloc::{AllocError, Global};
 
@@ -34,20 +34,22 @@ pub(crate) const EVENT_SORT: u32 = 4;
 const FLUENT_SORT: u32 = 5;
 
 /// The time after a time.
-fn next(alloc: Global, time: u32) -> Result<Term, AllocError>
+pub(crate) fn next(alloc: Global, time: u32) -> Result<Term, AllocError>
     ensures { IfOk result (λ t. term_tree t ≡ next time) }
 {
     sum(alloc, variable(time), int(1))
 }
 
-fn holds_at(alloc: Global, fluent: u32, time: Term) -> Result<Formula, AllocError>
+/// That a fluent holds at a time.
+pub(crate) fn holds_at(alloc: Global, fluent: u32, time: Term) -> Result<Formula, AllocError>
     ensures { IfOk result (λ f. formula_tree f ≡ HoldsAt fluent (term_tree time)) }
 {
     let args = two_terms(alloc, variable(fluent), time)?;
     Ok(atom(HOLDS_AT, args))
 }
 
-fn released_at(alloc: Global, fluent: u32, time: Term) -> Result<Formula, AllocError>
+/// That a fluent is released at a time.
+pub(crate) fn released_at(alloc: Global, fluent: u32, time: Term) -> Result<Formula, AllocError>
     ensures { IfOk result (λ f. formula_tree f ≡ ReleasedAt fluent (term_tree time)) }
 {
     let args = two_terms(alloc, variable(fluent), time)?;
@@ -61,43 +63,11 @@ pub(crate) fn holds_now(alloc: Global) -> Result<Formula, AllocError>
     holds_at(alloc, 1, variable(0))
 }
 
-/// That fluent 1 holds at the time after time 0.
-pub(crate) fn holds_next(alloc: Global) -> Result<Formula, AllocError>
-    ensures { IfOk result (λ f. formula_tree f ≡ HoldsAt 1 (next 0)) }
-{
-    let time = next(alloc, 0)?;
-    holds_at(alloc, 1, time)
-}
-
-/// That fluent 1 doesn't hold at the time after time 0.
-pub(crate) fn fails_next(alloc: Global) -> Result<Formula, AllocError>
-    ensures { IfOk result (λ f. formula_tree f ≡ negation (HoldsAt 1 (next 0))) }
-{
-    let holds = holds_next(alloc)?;
-    not(alloc, holds)
-}
-
 /// That fluent 1 is released at time 0.
 pub(crate) fn released_now(alloc: Global) -> Result<Formula, AllocError>
     ensures { IfOk result (λ f. formula_tree f ≡ ReleasedAt 1 (variable_tree 0)) }
 {
     released_at(alloc, 1, variable(0))
-}
-
-/// That fluent 1 is released at the time after time 0.
-pub(crate) fn released_next(alloc: Global) -> Result<Formula, AllocError>
-    ensures { IfOk result (λ f. formula_tree f ≡ ReleasedAt 1 (next 0)) }
-{
-    let time = next(alloc, 0)?;
-    released_at(alloc, 1, time)
-}
-
-/// That fluent 1 isn't released at the time after time 0.
-pub(crate) fn unreleased_next(alloc: Global) -> Result<Formula, AllocError>
-    ensures { IfOk result (λ f. formula_tree f ≡ negation (ReleasedAt 1 (next 0))) }
-{
-    let released = released_next(alloc)?;
-    not(alloc, released)
 }
 
 /// That an event happens at a time.

@@ -3,10 +3,12 @@ ghost use Rattle.std.specs.Prelude.{◌≡◌, IfOk};
 ghost use Rattle.ec_logic.specs.Tree.{negation, implies};
 ghost use Rattle.ec_logic.specs.Axiom.{next, ReleasedAt, Effect, both, each_of_three, no_event, every_fluent, DEC5, DEC6, DEC7, DEC8};
 ghost use Rattle.ec_theory.specs.View.{formula_tree};
+ghost use Rattle.ec_axiom.specs.Later.{is_later};
 
+use crate::later::{Later, is_later};
 use crate::parts::{
-    EVENT_SORT, INITIATES, RELEASES, TERMINATES, effect, every_fluent, fails_next, happens,
-    holds_next, holds_now, initiates_or_terminates, released_next, released_now, unreleased_next,
+    EVENT_SORT, INITIATES, RELEASES, TERMINATES, effect, every_fluent, happens, holds_now,
+    initiates_or_terminates, released_now,
 };
 use ec_building::{all_of_three, all_of_two, exists, implies, not};
 use ec_theory::Formula;
@@ -30,34 +32,35 @@ fn no_effect(alloc: Global, predicate: u32) -> Result<Formula, AllocError>
     no_event(alloc, effect)
 }
 
-// What is the case now is so next, unless it is released then or an event has this effect.
-fn inertia(
-    alloc: Global,
-    now: Formula,
-    predicate: u32,
-    later: Formula,
-) -> Result<Formula, AllocError>
-    ensures { IfOk result (λ f. formula_tree f ≡ every_fluent (implies (each_of_three (formula_tree now) (negation (ReleasedAt 1 (next 0))) (no_event (Effect predicate 0 2 1))) (formula_tree later))) }
+// This is the case now of fluent 1, it isn't released next, and no event has this effect on it.
+fn undisturbed(alloc: Global, now: Formula, predicate: u32) -> Result<Formula, AllocError>
+    ensures { IfOk result (λ f. formula_tree f ≡ each_of_three (formula_tree now) (negation (ReleasedAt 1 (next 0))) (no_event (Effect predicate 0 2 1))) }
 {
-    let unreleased = unreleased_next(alloc)?;
+    let unreleased = is_later(alloc, Later::Unreleased)?;
     let quiet = no_effect(alloc, predicate)?;
-    let premise = all_of_three(alloc, now, unreleased, quiet)?;
+    all_of_three(alloc, now, unreleased, quiet)
+}
+
+// Of all fluents and times: where the premise is the case, this is so later.
+fn of_each_fluent(alloc: Global, premise: Formula, later: Later) -> Result<Formula, AllocError>
+    ensures { IfOk result (λ f. formula_tree f ≡ every_fluent (implies (formula_tree premise) (is_later later))) }
+{
+    let later = is_later(alloc, later)?;
     let scope = implies(alloc, premise, later)?;
     every_fluent(alloc, scope)
 }
 
-// What is released or not now is so next, where no event has this effect.
-fn release_inertia(
+// Of all fluents and times: what is so now, where no event has an effect on it, is so later.
+fn unless_changed(
     alloc: Global,
     now: Formula,
     quiet: Formula,
-    later: Formula,
+    later: Later,
 ) -> Result<Formula, AllocError>
-    ensures { IfOk result (λ f. formula_tree f ≡ every_fluent (implies (both (formula_tree now) (formula_tree quiet)) (formula_tree later))) }
+    ensures { IfOk result (λ f. formula_tree f ≡ every_fluent (implies (both (formula_tree now) (formula_tree quiet)) (is_later later))) }
 {
     let premise = all_of_two(alloc, now, quiet)?;
-    let scope = implies(alloc, premise, later)?;
-    every_fluent(alloc, scope)
+    of_each_fluent(alloc, premise, later)
 }
 
 /// What holds goes on.
@@ -65,8 +68,8 @@ pub(crate) fn dec5(alloc: Global) -> Result<Formula, AllocError>
     ensures { IfOk result (λ f. formula_tree f ≡ DEC5) }
 {
     let now = holds_now(alloc)?;
-    let next = holds_next(alloc)?;
-    inertia(alloc, now, TERMINATES, next)
+    let premise = undisturbed(alloc, now, TERMINATES)?;
+    of_each_fluent(alloc, premise, Later::Holds)
 }
 
 /// What doesn't hold goes on so.
@@ -75,19 +78,18 @@ pub(crate) fn dec6(alloc: Global) -> Result<Formula, AllocError>
 {
     let holds = holds_now(alloc)?;
     let now = not(alloc, holds)?;
-    let next = fails_next(alloc)?;
-    inertia(alloc, now, INITIATES, next)
+    let premise = undisturbed(alloc, now, INITIATES)?;
+    of_each_fluent(alloc, premise, Later::Fails)
 }
 
 /// What is released stays so.
 pub(crate) fn dec7(alloc: Global) -> Result<Formula, AllocError>
     ensures { IfOk result (λ f. formula_tree f ≡ DEC7) }
 {
-    let now = released_now(alloc)?;
     let effect = initiates_or_terminates(alloc, 0, 2, 1)?;
     let quiet = no_event(alloc, effect)?;
-    let next = released_next(alloc)?;
-    release_inertia(alloc, now, quiet, next)
+    let now = released_now(alloc)?;
+    unless_changed(alloc, now, quiet, Later::Released)
 }
 
 /// What isn't released stays so.
@@ -97,6 +99,5 @@ pub(crate) fn dec8(alloc: Global) -> Result<Formula, AllocError>
     let released = released_now(alloc)?;
     let now = not(alloc, released)?;
     let quiet = no_effect(alloc, RELEASES)?;
-    let next = unreleased_next(alloc)?;
-    release_inertia(alloc, now, quiet, next)
+    unless_changed(alloc, now, quiet, Later::Unreleased)
 }
