@@ -1,7 +1,7 @@
 //! The declarations of a book's statements, collected.
-ghost use Rattle.std.specs.Prelude.{◌≡◌, ◌<◌, ◌^◌, ◌∷◌, ◌++◌, [], IfOk, OnOk, map, length};
+ghost use Rattle.std.specs.Prelude.{◌≡◌, ◌<◌, ◌^◌, ◌∷◌, ◌++◌, [], None, Some, IfOk, OnOk, map, length};
 ghost use Rattle.ec_syntax.specs.View.{content_of, placed_of, shape_of};
-ghost use Rattle.ec_names.specs.Names.{built_in_sorts, built_in_symbols, constant_entry, item_entry, itself, joined, last_choice, noninertial_in, placed_content, predicate_role, range_sort, ranges_in, shape_entry, sort_entry, sort_name, sorts_in, symbol_entry, symbol_name, symbols_in};
+ghost use Rattle.ec_names.specs.Names.{built_in_sorts, built_in_symbols, constant_entry, item_entry, itself, joined, last_choice, noninertial_in, placed_content, predicate_role, range_sort, ranges_in, shape_entry, sort_entry, sort_name, sorts_in, symbol_entry, symbol_name, symbols_in, word_integer};
 ghost use Rattle.ec_names.specs.View.{continued, ranges_of, role_of, sorts_of, with_first, IsFew};
 
 use crate::range::Range;
@@ -30,16 +30,47 @@ fn add_built_in_sort(
     Ok(())
 }
 
+fn add_top_sort(
+    alloc: Global,
+    sorts: &mut IndexMap<Word, Option<Word>>,
+    name: &str,
+) -> Result<(), AllocError>
+    ensures { OnOk result (sorts_of sorts.new.entries ≡ with_first sort_name (sorts_of sorts.old.entries) (sort_entry name.now None)) }
+{
+    add_built_in_sort(alloc, sorts, name, None)
+}
+
+fn add_integer_sort(
+    alloc: Global,
+    sorts: &mut IndexMap<Word, Option<Word>>,
+    name: &str,
+) -> Result<(), AllocError>
+    ensures { OnOk result (sorts_of sorts.new.entries ≡ with_first sort_name (sorts_of sorts.old.entries) (sort_entry name.now (Some word_integer))) }
+{
+    let integer = word(alloc, "integer")?;
+    add_built_in_sort(alloc, sorts, name, Some(integer))
+}
+
+fn add_built_in_sorts(
+    alloc: Global,
+    sorts: &mut IndexMap<Word, Option<Word>>,
+) -> Result<(), AllocError>
+    requires { sorts_of sorts.old.entries ≡ [] }
+    ensures { OnOk result (sorts_of sorts.new.entries ≡ built_in_sorts) }
+{
+    add_top_sort(alloc, sorts, "boolean")?;
+    add_top_sort(alloc, sorts, "integer")?;
+    add_integer_sort(alloc, sorts, "time")?;
+    add_integer_sort(alloc, sorts, "offset")?;
+    add_top_sort(alloc, sorts, "event")?;
+    add_top_sort(alloc, sorts, "fluent")
+}
+
 fn built_in_sorts(alloc: Global) -> Result<IndexMap<Word, Option<Word>>, AllocError>
     ensures { IfOk result (λ sorts. sorts_of sorts.entries ≡ built_in_sorts) }
 {
     let mut sorts = IndexMap::new(alloc);
-    add_built_in_sort(alloc, &mut sorts, "boolean", None)?;
-    add_built_in_sort(alloc, &mut sorts, "integer", None)?;
-    add_built_in_sort(alloc, &mut sorts, "time", Some(word(alloc, "integer")?))?;
-    add_built_in_sort(alloc, &mut sorts, "offset", Some(word(alloc, "integer")?))?;
-    add_built_in_sort(alloc, &mut sorts, "event", None)?;
-    add_built_in_sort(alloc, &mut sorts, "fluent", None)?;
+    add_built_in_sorts(alloc, &mut sorts)?;
     Ok(sorts)
 }
 
@@ -112,31 +143,23 @@ fn add_built_in_predicate(
     symbols.add(Role::Predicate, &name, sorts)
 }
 
+fn add_built_in_symbols(alloc: Global, symbols: &mut Symbols) -> Result<(), AllocError>
+    requires { symbols.old ≡ [] }
+    ensures { OnOk result (symbols.new ≡ built_in_symbols) }
+{
+    add_built_in_predicate(alloc, symbols, "HoldsAt", &["fluent", "time"])?;
+    add_built_in_predicate(alloc, symbols, "ReleasedAt", &["fluent", "time"])?;
+    add_built_in_predicate(alloc, symbols, "Happens", &["event", "time"])?;
+    add_built_in_predicate(alloc, symbols, "Initiates", &["event", "fluent", "time"])?;
+    add_built_in_predicate(alloc, symbols, "Terminates", &["event", "fluent", "time"])?;
+    add_built_in_predicate(alloc, symbols, "Releases", &["event", "fluent", "time"])
+}
+
 fn built_in_symbols(alloc: Global) -> Result<Symbols, AllocError>
     ensures { IfOk result (λ symbols. symbols ≡ built_in_symbols) }
 {
     let mut symbols = Symbols::new(alloc);
-    add_built_in_predicate(alloc, &mut symbols, "HoldsAt", &["fluent", "time"])?;
-    add_built_in_predicate(alloc, &mut symbols, "ReleasedAt", &["fluent", "time"])?;
-    add_built_in_predicate(alloc, &mut symbols, "Happens", &["event", "time"])?;
-    add_built_in_predicate(
-        alloc,
-        &mut symbols,
-        "Initiates",
-        &["event", "fluent", "time"],
-    )?;
-    add_built_in_predicate(
-        alloc,
-        &mut symbols,
-        "Terminates",
-        &["event", "fluent", "time"],
-    )?;
-    add_built_in_predicate(
-        alloc,
-        &mut symbols,
-        "Releases",
-        &["event", "fluent", "time"],
-    )?;
+    add_built_in_symbols(alloc, &mut symbols)?;
     Ok(symbols)
 }
 

@@ -1,4 +1,4 @@
-use Rattle.std.proofs.Common.{◌≡◌, Some, option_map, slice_get, sym, ap, ◌∙◌}
+use Rattle.std.proofs.Common.{Some, option_map, slice_get, sym, ap, ◌∙◌}
 use Rattle.std.specs.Map.Iter.{deref_pair}
 use Rattle.ec_names.specs.Names.{sort_entry}
 use Rattle.ec_names.specs.View.{sort_of}

@@ -1,4 +1,4 @@
-use Rattle.std.proofs.Common.{◌≡◌, List, option_map, slice_get, sym, ap, ◌∙◌}
+use Rattle.std.proofs.Common.{List, option_map, slice_get, sym, ap, ◌∙◌}
 use Rattle.std.specs.Map.Iter.{deref_pair}
 use Rattle.ec_names.specs.Names.{SymbolEntry}
 use Rattle.ec_names.specs.View.{symbol_of}
