@@ -1,7 +1,8 @@
 -- A prefix of a piece that was added, and what was added before it: a prefix of the whole.
-use Rattle.std.proofs.Common.{◌≡◌, ℕ, List, [], ◌++◌, Option, Some, None, Err, refl, sym, ap, ◌∙◌, append_assoc}
-use Rattle.std.proofs.lemmas.List.{append-nil}
+use Rattle.std.proofs.Common.{◌≡◌, ℕ, List, [], ◌++◌, Option, Some, None, Err, refl, sym, ap, ◌∙◌, append_assoc, ◌/◌, length, drop}
+use Rattle.std.proofs.lemmas.List.{append-nil, take-append-drop}
 use Rattle.std.specs.Prelude.{IsErrOf}
+use Rattle.ec_edge.specs.Memory.{first_half}
 use Rattle.ec_edge.specs.Pieces.{appended, AppendsPrefix, AppendsHeldPrefix}
 use Rattle.ec_edge.specs.declared.fault.SinkFault.{SinkFault}
 use Rattle.ec_edge.specs.declared.fault.SinkFault.TheVariants as sink
@@ -25,6 +26,10 @@ AppendsPrefix-after text start sent piece after old new p before all = (
   all ∙ ap (λ (x : List ℕ). sent ++ (x ++ after)) p.2 ∙ ap (λ (x : List ℕ). sent ++ x) (append_assoc p.0 p.1 after) ∙ sym (append_assoc sent p.0 (p.1 ++ after)),
   p.3 ∙ ap (λ (x : List ℕ). x ++ p.0) before ∙ append_assoc start sent p.0,
 )
+
+-- a piece is its first half and what follows it
+pub rest_of_half : (piece half : List ℕ) → half ≡ first_half piece → piece ≡ half ++ drop (length piece / 2) piece
+rest_of_half piece half is = rw is (sym (take-append-drop (length piece / 2) piece))
 
 -- adding nothing
 pub appended-none : (held : Option (List ℕ)) → appended held [] ≡ held

@@ -7,7 +7,7 @@ ghost use Rattle.ec_edge.specs.Pieces.{IsPiece, AllStay, OthersStay, appended, A
 ghost use Rattle.ec_edge.specs.Plan.{after_call, failing_too, FailsNext};
 
 use crate::calls::Calls;
-use crate::half::add_half;
+use crate::half::first_half;
 use crate::{FileFault, Files};
 use std::alloc::{AllocError, Global};
 use std::collections::BTreeMap;
@@ -99,6 +99,23 @@ impl MemFiles {
     {
         self.appends.fail(n)
     }
+
+    // Adds a piece to what a held name holds.
+    #[tactic(auto, using(std::proofs::lemmas::Map::Text::text_keys))]
+    fn extend(&mut self, name: &str, piece: &[u8]) -> Result<(), AllocError>
+        requires { held_in self.old name.now ≢ None }
+        ensures ok { OnOk result
+            (held_in self.new name.now ≡ appended (held_in self.old name.now) piece.now) }
+        ensures others { OthersStay name.now (held_in self.old) (held_in self.new) }
+        ensures err { OnErr result (AllStay (held_in self.old) (held_in self.new)) }
+        ensures tally { tally_of self.new ≡ tally_of self.old }
+    {
+        let Some(bytes) = self.files.get_mut(name) else {
+            unreachable!()
+        };
+        bytes.extend_from_slice(piece)?;
+        Ok(())
+    }
 }
 
 // Copies the bytes from an offset on, as many as there are and as the buffer takes.
@@ -166,7 +183,6 @@ impl Files for MemFiles {
     }
 
     /// A call that is set to fail changes nothing that is held.
-    #[tactic(auto, using(std::proofs::lemmas::Map::Text::text_keys))]
     fn start(&mut self, name: &str) -> Result<(), FileFault>
         ensures ok { OnOk result (held_in self.new name.now ≡ Some []) }
         ensures others { OthersStay name.now (held_in self.old) (held_in self.new) }
@@ -188,13 +204,11 @@ impl Files for MemFiles {
             self.faults = self.faults.saturating_add(1);
             return Err(FileFault::Failed);
         }
-        let key = String::from_str(self.alloc, name)?;
-        self.files.insert(key, Vec::new(self.alloc))?;
+        self.hold(name, &[])?;
         Ok(())
     }
 
     /// A call that is set to fail adds the first half of the piece, rounded down.
-    #[tactic(auto, using(std::proofs::lemmas::Map::Text::text_keys))]
     fn append(&mut self, name: &str, piece: &[u8]) -> Result<(), FileFault>
         requires { held_in self.old name.now ≢ None }
         ensures ok { OnOk result
@@ -218,16 +232,12 @@ impl Files for MemFiles {
         ensures faults { (tally_of self.old).faults ≤ (tally_of self.new).faults }
         ensures absences { (tally_of self.old).absences ≤ (tally_of self.new).absences }
     {
-        let fails = self.appends.next_fails();
-        let Some(bytes) = self.files.get_mut(name) else {
-            unreachable!()
-        };
-        if fails {
-            add_half(bytes, piece)?;
+        if self.appends.next_fails() {
+            self.extend(name, first_half(piece))?;
             self.faults = self.faults.saturating_add(1);
             return Err(FileFault::Failed);
         }
-        bytes.extend_from_slice(piece)?;
+        self.extend(name, piece)?;
         Ok(())
     }
 }

@@ -6,7 +6,7 @@ ghost use Rattle.ec_edge.specs.Pieces.{AppendsPrefix};
 ghost use Rattle.ec_edge.specs.Plan.{after_call, failing_too, FailsNext};
 
 use crate::calls::Calls;
-use crate::half::add_half;
+use crate::half::first_half;
 use crate::{Sink, SinkFault};
 use std::alloc::{AllocError, Global};
 use std::marker::Model;
@@ -80,7 +80,7 @@ impl Sink for MemSink {
         ensures faults { self.old.faults ≤ self.new.faults }
     {
         if self.puts.next_fails() {
-            add_half(&mut self.bytes, piece)?;
+            self.bytes.extend_from_slice(first_half(piece))?;
             self.faults = self.faults.saturating_add(1);
             return Err(SinkFault::Failed);
         }
