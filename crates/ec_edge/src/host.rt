@@ -3,7 +3,7 @@
 //! They tell nothing of what they hold. No clause says what the system does, so these few lines
 //! are trusted and tried on real files.
 ghost use Rattle.std.specs.Prelude.{◌≡◌, ◌≤◌, [], ℕ, None, false, length, IfOk};
-ghost use Rattle.ec_edge.specs.Causes.{raised};
+ghost use Rattle.ec_edge.specs.Causes.{raised, Rose};
 
 use crate::{FileFault, Files, Sink, SinkFault};
 use std::fs::{File, OpenOptions};
@@ -60,6 +60,20 @@ impl<'a, R: SystemFiles> HostFiles<'a, R> {
         self.absences = self.absences.saturating_add(1);
         FileFault::Absent
     }
+
+    // The fault of a read that the system refused.
+    fn refused(&mut self, kind: ErrorKind) -> FileFault
+        ensures absent { result ≡ FileFault.Absent → Rose self.old.absences self.new.absences }
+        ensures failed { result ≡ FileFault.Failed → Rose self.old.faults self.new.faults }
+        ensures faults { self.old.faults ≤ self.new.faults }
+        ensures absences { self.old.absences ≤ self.new.absences }
+    {
+        if kind == ErrorKind::NotFound {
+            self.absent()
+        } else {
+            self.failed()
+        }
+    }
 }
 
 fn read_at<R: SystemFiles>(rt: &R, name: &str, at: u64, buf: &mut [u8]) -> io::Result<usize>
@@ -87,8 +101,7 @@ impl<'a, R: SystemFiles> Files for HostFiles<'a, R> {
     fn piece(&mut self, name: &str, at: u64, buf: &mut [u8]) -> Result<usize, FileFault> {
         match read_at(self.rt, name, at, buf) {
             Ok(n) => Ok(n),
-            Err(e) if e.kind() == ErrorKind::NotFound => Err(self.absent()),
-            Err(_) => Err(self.failed()),
+            Err(e) => Err(self.refused(e.kind())),
         }
     }
 

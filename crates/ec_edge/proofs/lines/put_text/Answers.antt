@@ -1,8 +1,23 @@
-use Rattle.std.proofs.Common.{ℕ, List, [], ◌++◌, sym, ap, ◌∙◌, IsTrue}
+use Rattle.std.proofs.Common.{ℕ, List, [], ◌++◌, sym, ap, ◌∙◌, IsTrue, arith, append_assoc}
 use Rattle.std.proofs.lemmas.List.{append-nil}
 use Rattle.std.proofs.lemmas.Result.{err_from_is_err_and}
 use Rattle.ec_edge.proofs.Prefixes.{AppendsPrefix-put, AppendsPrefix-after}
 use Rattle.ec_edge.proofs.lines.put_text.Goals as goal
+
+pub loop-line-preserved : goal.loop-line-preserved
+loop-line-preserved g c =
+    let line = c.in-Some.line.now in
+    record {
+      so_far = λ told.
+          let now : IsTrue (g.O.Sink.tells c.loop-line.out) = rw c.loop-line.invariant.tells told in
+          let so_far = c.loop-line.invariant.so_far told in (
+            so_far.0 ++ line,
+            c.in_ok-put.ensures.ok now ∙ ap (λ (x : List ℕ). x ++ line) so_far.1 ∙ append_assoc _ _ line,
+            so_far.2 ∙ ap (λ (x : List ℕ). so_far.0 ++ x) c.in-Some.ensures.whole ∙ sym (append_assoc _ line _),
+          );
+      tells = c.in_ok-put.ensures.tells ∙ c.loop-line.invariant.tells;
+      faults = omega (arith, c.in_ok-put.ensures.faults);
+    }
 
 pub returns-in_err-put-clause-part : goal.returns-in_err-put-clause-part
 returns-in_err-put-clause-part g c = λ told.

@@ -1,6 +1,6 @@
 use Rattle.std.proofs.Common.{rules, ◌≡◌, ◌≤◌, IsTrue, length, drop, ◌++◌, arith, length-append}
 use Rattle.std.proofs.lemmas.List.{length-take}
-use Rattle.ec_edge.proofs.Reading.{SoFar-more}
+use Rattle.ec_edge.proofs.Reading.{SoFar-more, SoFar-whole, IsFront-past}
 use Rattle.ec_edge.proofs.whole.read_whole.Goals as goal
 
 pub loop-buf-preserved : goal.loop-buf-preserved
@@ -29,3 +29,14 @@ loop-buf-preserved g c =
       faults = omega (arith, c.in_ok-n.ensures.faults);
       absences = omega (arith, c.in_ok-n.ensures.absences);
     }
+
+pub returns-then-n-eq0-clause-bytes : goal.returns-then-n-eq0-clause-bytes
+returns-then-n-eq0-clause-bytes g c = λ told.
+    let at_is : c.len-in-loop-buf-2.result ≡ length c.loop-buf.bytes.items = omega arith in
+    let told_now : IsTrue (g.F.Files.tells c.loop-buf.files) = rw c.loop-buf.invariant.tells told in
+    SoFar-whole _ _ _ c.piece.new.buf c.in_ok-n.n _ c.loop-buf.invariant.so_far told
+    (rw (← c.loop-buf.invariant.stays c.args.name.now, ← at_is) (c.in_ok-n.ensures.bytes told_now))
+    c.if-n-eq0.true (omega (arith, c.piece.auto.buf, length-take c.min-want.result c.loop-buf.buf)) (omega arith)
+
+pub returns-clause-bytes : goal.returns-clause-bytes
+returns-clause-bytes g c = λ told. IsFront-past _ _ _ (c.loop-buf.invariant.so_far.begun told (omega arith)) (omega arith)
