@@ -66,7 +66,6 @@ impl Writer {
     /// Each hint is at least 1, a blocked clause has the variables from 1 on in order, the number of
     /// a limit is at least 1, and each clause has a number below 2^32. After a refusal the name holds what it held or a prefix of the log;
     /// where `start` failed nothing is said of it.
-    #[tactic(auto, using(crate::proofs::WrittenLines::written_lines))]
     pub fn write<F: Files>(
         &self,
         files: &mut F,

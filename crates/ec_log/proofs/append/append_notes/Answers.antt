@@ -1,6 +1,6 @@
-use Rattle.std.proofs.Common.{IsTrue, arith}
+use Rattle.std.proofs.Common.{IsTrue, arith, ◌∙◌}
 use Rattle.std.proofs.lemmas.Result.{err_from_is_err_and}
-use Rattle.ec_log.proofs.Parts.{note_part, split_there}
+use Rattle.ec_log.proofs.Parts.{note_part, note_whole, split_there}
 use Rattle.ec_log.proofs.append.append_notes.Goals as goal
 
 pub returns-in_err-append_entry-clause-part : goal.returns-in_err-append_entry-clause-part
@@ -8,3 +8,13 @@ returns-in_err-append_entry-clause-part g c = λ told.
     let p = err_from_is_err_and c.from_residual.result c.from_residual.ensures.1 in
     let now : IsTrue (g.F.Files.tells c.loop-kept.files) = rw c.loop-kept.invariant.tells told in
     rw p.1 (note_part _ _ _ c.kept-item.result _ _ _ (split_there c.args.notes.now c.loop-kept.kept-index c.kept-item.result (omega arith) c.kept-item.is) (c.loop-kept.invariant.so_far told) (c.in_err-append_entry.ensures.part now))
+
+pub loop-kept-preserved : goal.loop-kept-preserved
+loop-kept-preserved g c = record {
+  so_far = λ told.
+      let now : IsTrue (g.F.Files.tells c.loop-kept.files) = rw c.loop-kept.invariant.tells told in
+      note_whole c.args.notes.now c.loop-kept.kept-index c.kept-item.result _ _ _ (omega arith) c.kept-item.is (c.loop-kept.invariant.so_far told) (c.in_ok-append_entry.ensures.ok now);
+  others = λ other apart. c.in_ok-append_entry.ensures.others other apart ∙ c.loop-kept.invariant.others other apart;
+  tells = c.in_ok-append_entry.ensures.tells ∙ c.loop-kept.invariant.tells;
+  faults = omega (arith, c.in_ok-append_entry.ensures.faults);
+}
