@@ -161,10 +161,28 @@ held_on n es old seen worked place base l other trail before follows within at u
     let lit : seen_at old base ≡ other = before.same base some_entry up.within ∙ up.there some_entry in
     record { place = leans.place; within = leans.within; there = leans.there ∙ lit; lean = omega (arith, leans.lean) }
 
+pub leans_push : (seen : List Seen) (s : Seen) → Leans (seen ++ s ∷ []) s.lit s.lean
+leans_push seen s = let last = get_or_push seen s no_seen (length seen) refl in record {
+  place = length seen;
+  within = omega (arith, length_push seen s);
+  there = ap (λ (x : Seen). x.lit) last;
+  lean = omega (arith, ap (λ (x : Seen). x.lean) last);
+}
+
 pub leans_set : (seen : List Seen) (base place : ℕ) (s : Seen) → base < length seen → s.lit ≡ seen_at seen base → s.lean ≤ place → Leans (set seen base s) (seen_at seen base) place
 leans_set seen base place s lt same lean =
     let item = get_or-set_same seen base s no_seen lt in
     record { place = base; within = omega (arith, length-set seen base s); there = ap (λ (x : Seen). x.lit) item ∙ same; lean = omega (arith, lean, ap (λ (x : Seen). x.lean) item) }
+
+-- one literal more was seen that stands on the trail
+pub sees_more : (es : List Entry) (seen : List Seen) (place : ℕ) (one : Seen) → length seen ≡ place → place < length es → IfSome (slice_get es place) (λ e. one.lit ≡ e.lit) → ((i : ℕ) (d : Entry) → i < place → seen_at seen i ≡ (get_or es i d).lit) → (i : ℕ) (d : Entry) → i < place + 1 → seen_at (seen ++ one ∷ []) i ≡ (get_or es i d).lit
+sees_more es seen place one size below at same i d lt = elim (cases_lt i place) [
+  | inl before ↦ ap (λ (x : Seen). x.lit) (get_or_append_left seen (one ∷ []) no_seen i (omega (arith, size))) ∙ same i d before
+  | inr ge ↦ (
+      let here : i ≡ place = omega arith in
+      let lit : one.lit ≡ (get_or es place d).lit = rw (slice_get-get_or es place d below) at at in
+      rw here (ap (λ (x : Seen). x.lit) (get_or_push seen one no_seen place size) ∙ lit))
+]
 
 -- one place more agrees
 pub agrees_more : (n : ℕ) (es : List Entry) (seen : List Seen) (place : ℕ) (one : Seen) (l : Literal) → IsTrail n es → place < length es → place < length seen → one ≡ get_or seen place one → IfSome (slice_get es place) (λ e. l ≡ e.lit) → int_eq (number_of one.lit) (number_of l) ≡ true → ((i : ℕ) (d : Entry) → i < place → seen_at seen i ≡ (get_or es i d).lit) → (i : ℕ) (d : Entry) → i < place + 1 → seen_at seen i ≡ (get_or es i d).lit

@@ -1,7 +1,11 @@
-use Rattle.std.proofs.Common.{◌+◌, ◌<◌, ◌≤◌, List, length, refl, sym, ap, subst, ◌∙◌, arith}
+use Rattle.std.proofs.Common.{◌≡◌, ◌+◌, ◌*◌, ◌<◌, ◌≤◌, List, length, refl, sym, ap, subst, ◌∙◌, arith}
+use Rattle.std.proofs.lemmas.List.{length-set}
 use Rattle.std.specs.Prelude.{Contains}
 use Rattle.ec_clause.specs.Literal.{Literal}
 use Rattle.ec_clause.specs.ClauseList.{clause_at}
+use Rattle.ec_unit.specs.Chained.{index_of}
+use Rattle.ec_unit.proofs.Chaining.{index_below}
+use Rattle.ec_unit.proofs.Unlinking.{chain_few}
 use Rattle.ec_unit.proofs.Enchains.{size_of, enchain_short, enchain_short_chained, enchain_two, enchain_two_chained, two_of_clause}
 use Rattle.ec_unit.proofs.table.enchain.Goals as goal
 
@@ -14,6 +18,39 @@ pub returns-then-clause-lt2-clause-chained : goal.returns-then-clause-lt2-clause
 returns-then-clause-lt2-clause-chained c =
     let short : length (clause_at c.args.clauses.now (c.args.table.now.chained + 1)) < 2 = omega (arith, ap length c.get-clause.ensures.value, c.if-clause-lt2.true) in
     enchain_short_chained c.args.clauses.now c.args.table.now c.args.trail.now c.requires.working c.requires.chained c.requires.more short
+
+pub attach-requires-clause-index : goal.attach-requires-clause-index
+attach-requires-clause-index c =
+    let w = c.requires.working in
+    let first = c.index-clause-first.result in
+    let range : first.variable ≤ c.args.table.now.variables = omega (arith, (c.get-clause.ensures.clause.in_range c.latest-first.result.0 first c.latest-first.ensures.first).1, ap (λ (x : Literal). x.variable) c.index-clause-first.is, w.list, w.variables) in
+    omega (arith, index_below c.args.table.now.variables first range, c.requires.chained.size)
+
+pub attach-requires-clause-place : goal.attach-requires-clause-place
+attach-requires-clause-place c = omega (arith, size_of c.args.clauses.now c.args.table.now c.args.trail.now c.requires.working, c.requires.more)
+
+pub attach-requires-clause-few : goal.attach-requires-clause-few
+attach-requires-clause-few c =
+    let t = c.args.table.now in
+    let w = c.requires.working in
+    let first = c.index-clause-first.result in
+    let range : first.variable ≤ t.variables = omega (arith, (c.get-clause.ensures.clause.in_range c.latest-first.result.0 first c.latest-first.ensures.first).1, ap (λ (x : Literal). x.variable) c.index-clause-first.is, w.list, w.variables) in
+    omega (arith, chain_few t.variables t.chains.chains.items t.chains.cells.items (2 * t.chained) first c.requires.chained range, c.requires.more, c.len.ensures.value, c.len.type_inv)
+
+pub attach-requires-2-clause-index : goal.attach-requires-2-clause-index
+attach-requires-2-clause-index c =
+    let t = c.args.table.now in
+    let w = c.requires.working in
+    let second = c.index-clause-second.result in
+    let range : second.variable ≤ t.variables = omega (arith, (c.get-clause.ensures.clause.in_range c.latest-first.result.1 second c.latest-first.ensures.second).1, ap (λ (x : Literal). x.variable) c.index-clause-second.is, w.list, w.variables) in
+    let same : length c.attach.new.self.chains.items ≡ length t.chains.chains.items = ap length c.attach.ensures.chains ∙ length-set t.chains.chains.items (index_of c.index-clause-first.result) _ in
+    omega (arith, index_below t.variables second range, c.requires.chained.size, same)
+
+pub attach-requires-2-clause-place : goal.attach-requires-2-clause-place
+attach-requires-2-clause-place c =
+    let t = c.args.table.now in
+    let same : length c.attach.new.self.cells.items ≡ length t.chains.cells.items = ap length c.attach.ensures.cells ∙ length-set t.chains.cells.items (2 * t.chained) _ in
+    omega (arith, size_of c.args.clauses.now t c.args.trail.now c.requires.working, c.requires.more, same)
 
 pub returns-clause-working : goal.returns-clause-working
 returns-clause-working c =
