@@ -1,5 +1,5 @@
 -- The turns of the loops that read the parts of a formula.
-use Rattle.std.proofs.Common.{◌≡◌, ℕ, ◌<◌, ◌≤◌, true, List, [], ◌∷◌, ◌++◌, None, length, refl, ap, arith}
+use Rattle.std.proofs.Common.{◌≡◌, ℕ, ◌<◌, ◌≤◌, true, List, [], ◌∷◌, ◌++◌, None, length, refl, ap, subst, arith}
 use Rattle.ec_parse.specs.declared.mark.Sign.{Sign}
 use Rattle.ec_parse.specs.declared.mark.Sign.TheVariants as s
 use Rattle.ec_parse.specs.declared.fault.Fault.{Fault}
@@ -7,15 +7,17 @@ use Rattle.ec_parse.specs.declared.fault.Fault.TheVariants.{Memory, Syntax}
 use Rattle.ec_syntax.specs.declared.tree.Tree.{Tree}
 use Rattle.ec_syntax.specs.Written.{Term, Terms, Formula, Formulas, no_formulas, formula, all_of, any_of, iff}
 use Rattle.ec_syntax.specs.View.{formula_of, formulas_of}
-use Rattle.ec_parse.specs.Mark.{Mark, sign, Lacks}
+use Rattle.ec_parse.specs.Mark.{Mark, sign, seen_all, Lacks}
 use Rattle.ec_parse.specs.Mark as m
 use Rattle.ec_parse.specs.Terms.{binds, opens, IsTerm, AreArguments, products, factors, variable_alone, application}
 use Rattle.ec_parse.specs.Lists.{IsVariable, AreParted, commas}
 use Rattle.std.specs.Prelude.{Result, Ok, Err}
 use Rattle.std.specs.Borrow.{Bor}
+use Rattle.std.specs.declared.vec.Vec.{Vec}
+use Rattle.std.specs.declared.alloc.Global.{Global}
 use Rattle.ec_parse.specs.declared.mark.Mark as rust
-use Rattle.ec_parse.specs.Reads.{Fails, Reads, free}
-use Rattle.ec_parse.specs.Formulas.{joining, joins, compared, behind, goes_on, IsComparison, comparison, IsAtom, predicate, compares, Scope, IsUnary, negation, group, every, some, atomic, IsScope, scope, IsConjunction, conjunction, AreConjuncts, no_conjunct, conjunct, IsDisjunction, disjunction, AreDisjuncts, no_disjunct, disjunct, IsImplication, plain, implication, IsFormula, implications, Equates, no_side, side}
+use Rattle.ec_parse.specs.Reads.{Fails, Reads, IsClosed, free}
+use Rattle.ec_parse.specs.Formulas.{joining, joins, trees_of, compared, behind, goes_on, IsComparison, comparison, IsAtom, predicate, compares, Scope, IsUnary, negation, group, every, some, atomic, IsScope, scope, IsConjunction, conjunction, AreConjuncts, no_conjunct, conjunct, IsDisjunction, disjunction, AreDisjuncts, no_disjunct, disjunct, IsImplication, plain, implication, IsFormula, implications, Equates, no_side, side}
 use Rattle.ec_parse.proofs.OneTerm.{arguments_one, term_one, term_from, tail_of}
 use Rattle.ec_parse.proofs.OneAtom.{compared_binds, stays_binds, atom_sign}
 use Rattle.ec_parse.proofs.Parted.{variable_one, parted_one}
@@ -99,28 +101,31 @@ conjuncts_left : {more after : List Mark} {a : Formula} {cs : Formulas} {r : Lis
 conjuncts_left l no_conjunct u = absurd (omega arith)
 conjuncts_left l (conjunct {bs = bs} d ds) u = (bs, conjuncts_from (unary_one u d).1 ds)
 
-pub conjuncts_more : {start more after : List Mark} {found : List Tree} → Conjuncts start (sign s.And ∷ more) found → (next : Tree) → IsUnary more (formula_of next) after → length after ≤ length more
-    → Conjuncts start after (found ++ next ∷ [])
-conjuncts_more {after = after} {found = found} c next u l = record {
-  so_far = λ bs r d. rw joined-push (c.so_far _ r (conjunct u d));
+pub conjuncts_more : {start more after : List Mark} {found new : List Tree} → Conjuncts start (sign s.And ∷ more) found → (next : Tree) → IsUnary more (formula_of next) after → length after ≤ length more → new ≡ found ++ next ∷ []
+    → Conjuncts start after new
+conjuncts_more {after = after} {found = found} c next u l e = record {
+  so_far = λ bs r d. rw (e, joined-push) (c.so_far _ r (conjunct u d));
   goes_on = λ bs r d m. let k = c.goes_on bs r d m in conjuncts_left m k.1 u;
   shorter = let s = c.shorter in omega arith;
 }
 
-pub conjuncts_end : {marks start rest : List Mark} {found : List Tree} {a : Formula} → IsUnary marks a start → Conjuncts start rest found → IsConjunction marks (all_of a (formulas_of found)) rest
-conjuncts_end {rest = rest} {found = found} u c = conjunction u (rw (← joined-none (formulas_of found)) (c.so_far no_formulas rest no_conjunct))
+pub conjuncts_end : {start rest : List Mark} {found : List Tree} → Conjuncts start rest found → AreConjuncts start (formulas_of found) rest
+conjuncts_end {rest = rest} {found = found} c = rw (← joined-none (formulas_of found)) (c.so_far no_formulas rest no_conjunct)
 
 no_conjuncts : {more : List Mark} {cs : Formulas} {r : List Mark} → joins r < 4 → AreConjuncts (sign s.And ∷ more) cs r → Fails IsUnary free 1 more Syntax → ⊥
 no_conjuncts l no_conjunct f = omega arith
 no_conjuncts l (conjunct {mid = mid} d ds) f = f _ mid d (omega arith)
 
-no_conjunction : {marks start more : List Mark} {found : List Tree} {a b : Formula} {r : List Mark} → IsUnary marks a start → Conjuncts start (sign s.And ∷ more) found → Fails IsUnary free 1 more Syntax
-    → IsConjunction marks b r → joins r < 4 → ⊥
-no_conjunction u c f (conjunction d ds) l = let k = c.goes_on _ _ (conjuncts_from (unary_one u d).1 ds) l in no_conjuncts l k.1 f
+pub conjuncts_fail : (start : List Mark) {more : List Mark} {found : List Tree} (e : Fault) → Conjuncts start (sign s.And ∷ more) found → Fails IsUnary free 1 more e → Fails AreConjuncts joins 4 start e
+conjuncts_fail start Memory c f = tt
+conjuncts_fail start Syntax c f = λ b r d l. let k = c.goes_on b r d l in no_conjuncts l k.1 f
 
-pub conjuncts_fail : (marks : List Mark) {start more : List Mark} {found : List Tree} {a : Formula} (e : Fault) → IsUnary marks a start → Conjuncts start (sign s.And ∷ more) found → Fails IsUnary free 1 more e → Fails IsConjunction joins 4 marks e
-conjuncts_fail _ Memory u c f = tt
-conjuncts_fail _ Syntax u c f = λ b r d l. no_conjunction u c f d l
+no_conjunction : {marks start : List Mark} {a b : Formula} {r : List Mark} → IsUnary marks a start → Fails AreConjuncts joins 4 start Syntax → IsConjunction marks b r → joins r < 4 → ⊥
+no_conjunction u f (conjunction d ds) l = f _ _ (conjuncts_from (unary_one u d).1 ds) l
+
+pub others_fail : (marks : List Mark) {start : List Mark} {a : Formula} (e : Fault) → IsUnary marks a start → Fails AreConjuncts joins 4 start e → Fails IsConjunction joins 4 marks e
+others_fail marks Memory u f = tt
+others_fail marks Syntax u f = λ b r d l. no_conjunction u f d l
 
 no_first : {marks : List Mark} {b : Formula} {r : List Mark} → Fails IsUnary free 1 marks Syntax → IsConjunction marks b r → ⊥
 no_first f (conjunction {mid = mid} d ds) = f _ mid d (omega arith)
@@ -145,30 +150,32 @@ disjuncts_left : {more after : List Mark} {a : Formula} {cs : Formulas} {r : Lis
 disjuncts_left l no_disjunct u m = absurd (omega arith)
 disjuncts_left l (disjunct {bs = bs} d ds) u m = (bs, disjuncts_from (conjunction_one u m d (disjuncts_stop ds l)).1 ds)
 
-pub disjuncts_more : {start more after : List Mark} {found : List Tree} → Disjuncts start (sign s.Or ∷ more) found → (next : Tree) → IsConjunction more (formula_of next) after → joins after < 4 → length after ≤ length more
-    → Disjuncts start after (found ++ next ∷ [])
-disjuncts_more {after = after} {found = found} c next u stop l = record {
+pub disjuncts_more : {start more after : List Mark} {found new : List Tree} → Disjuncts start (sign s.Or ∷ more) found → (next : Tree) → IsConjunction more (formula_of next) after → joins after < 4 → length after ≤ length more → new ≡ found ++ next ∷ []
+    → Disjuncts start after new
+disjuncts_more {after = after} {found = found} c next u stop l e = record {
   stops = stop;
-  so_far = λ bs r d. rw joined-push (c.so_far _ r (disjunct u d));
+  so_far = λ bs r d. rw (e, joined-push) (c.so_far _ r (disjunct u d));
   goes_on = λ bs r d m. let k = c.goes_on bs r d m in disjuncts_left m k.1 u stop;
   shorter = let s = c.shorter in omega arith;
 }
 
-pub disjuncts_end : {marks start rest : List Mark} {found : List Tree} {a : Formula} → IsConjunction marks a start → Disjuncts start rest found → IsDisjunction marks (any_of a (formulas_of found)) rest
-disjuncts_end {rest = rest} {found = found} u c = disjunction u (rw (← joined-none (formulas_of found)) (c.so_far no_formulas rest no_disjunct))
+pub disjuncts_end : {start rest : List Mark} {found : List Tree} → Disjuncts start rest found → AreDisjuncts start (formulas_of found) rest
+disjuncts_end {rest = rest} {found = found} c = rw (← joined-none (formulas_of found)) (c.so_far no_formulas rest no_disjunct)
 
 no_disjuncts : {more : List Mark} {cs : Formulas} {r : List Mark} → joins r < 3 → AreDisjuncts (sign s.Or ∷ more) cs r → Fails IsConjunction joins 4 more Syntax → ⊥
 no_disjuncts l no_disjunct f = omega arith
 no_disjuncts l (disjunct d ds) f = f _ _ d (disjuncts_stop ds l)
 
-no_disjunction : {marks start more : List Mark} {found : List Tree} {a b : Formula} {r : List Mark} → IsConjunction marks a start → joins start < 4 → Disjuncts start (sign s.Or ∷ more) found
-    → Fails IsConjunction joins 4 more Syntax → IsDisjunction marks b r → joins r < 3 → ⊥
-no_disjunction u stop c f (disjunction d ds) l = let k = c.goes_on _ _ (disjuncts_from (conjunction_one u stop d (disjuncts_stop ds l)).1 ds) l in no_disjuncts l k.1 f
+pub disjuncts_fail : (start : List Mark) {more : List Mark} {found : List Tree} (e : Fault) → Disjuncts start (sign s.Or ∷ more) found → Fails IsConjunction joins 4 more e → Fails AreDisjuncts joins 3 start e
+disjuncts_fail start Memory c f = tt
+disjuncts_fail start Syntax c f = λ b r d l. let k = c.goes_on b r d l in no_disjuncts l k.1 f
 
-pub disjuncts_fail : (marks : List Mark) {start more : List Mark} {found : List Tree} {a : Formula} (e : Fault) → IsConjunction marks a start → joins start < 4 → Disjuncts start (sign s.Or ∷ more) found
-    → Fails IsConjunction joins 4 more e → Fails IsDisjunction joins 3 marks e
-disjuncts_fail _ Memory u stop c f = tt
-disjuncts_fail _ Syntax u stop c f = λ b r d l. no_disjunction u stop c f d l
+no_disjunction : {marks start : List Mark} {a b : Formula} {r : List Mark} → IsConjunction marks a start → joins start < 4 → Fails AreDisjuncts joins 3 start Syntax → IsDisjunction marks b r → joins r < 3 → ⊥
+no_disjunction u stop f (disjunction d ds) l = f _ _ (disjuncts_from (conjunction_one u stop d (disjuncts_stop ds l)).1 ds) l
+
+pub others_of_any_fail : (marks : List Mark) {start : List Mark} {a : Formula} (e : Fault) → IsConjunction marks a start → joins start < 4 → Fails AreDisjuncts joins 3 start e → Fails IsDisjunction joins 3 marks e
+others_of_any_fail marks Memory u stop f = tt
+others_of_any_fail marks Syntax u stop f = λ b r d l. no_disjunction u stop f d l
 
 no_first_of_any : {marks : List Mark} {b : Formula} {r : List Mark} → Fails IsConjunction joins 4 marks Syntax → IsDisjunction marks b r → joins r < 3 → ⊥
 no_first_of_any f (disjunction d ds) l = f _ _ d (disjuncts_stop ds l)
@@ -382,9 +389,55 @@ pub else_reads : (ms : List Mark) (result : Result (Tree × Bor (List rust.Mark)
 else_reads ms (Ok r) lacks h = (compares h.0, h.1, h.2)
 else_reads ms (Err e) lacks h = else_fails ms e lacks h
 
+pub group_reads : (ms mid : List Mark) (inner : Tree) (result : Result (Tree × Bor (List rust.Mark)) Fault) → IsFormula ms (formula_of inner) mid → joins mid < 1 → length mid ≤ length ms → IsClosed inner mid s.Close result
+    → Reads formula_of IsUnary free 1 (sign s.Open ∷ ms) result
+group_reads ms mid inner (Ok r) u l n h = (rw h.0 (group (rw h.1 at u)), omega arith, omega (arith, n, ap length h.1))
+group_reads ms mid inner (Err e) u l n h = rw h.0 (λ b r d m. no_close u l h.1 d)
+
 pub unary_reads : (ms : List Mark) (result : Result (Tree × Bor (List rust.Mark)) Fault) → Lacks ms (sign s.Not) → Lacks ms (sign s.Open) → Lacks ms (sign s.OpenBracket) → Lacks ms (sign s.OpenBrace)
     → Reads formula_of IsAtom free 1 ms result → Reads formula_of IsUnary free 1 ms result
 unary_reads ms (Ok r) n o p q h = (atomic h.0, h.1, h.2)
 unary_reads ms (Err e) n o p q h = unary_fails ms e n o p q h
+
+-- ---- what was read before, with what is read next
+
+pub with_others_fail : (marks start more : List Mark) {a : Formula} (next : Result (Vec Tree Global × Bor (List rust.Mark)) Fault) (e : Fault) → IsUnary marks a start → start ≡ sign s.And ∷ more → next ≡ Err e → Reads trees_of AreConjuncts joins 4 (sign s.And ∷ more) next
+    → Fails IsConjunction joins 4 marks e
+with_others_fail marks start more {a} next e u begins is h =
+    others_fail marks e (subst (λ z. IsUnary marks a z) begins u) (subst (λ n. Reads trees_of AreConjuncts joins 4 (sign s.And ∷ more) n) is h)
+
+pub with_others : (marks start more : List Mark) (before first : Tree) (others : Vec Tree Global) (rest : Bor (List rust.Mark)) (next : Result (Vec Tree Global × Bor (List rust.Mark)) Fault) → IsUnary marks (formula_of before) start → length start ≤ length marks
+    → start ≡ sign s.And ∷ more → first ≡ before → next ≡ Ok (others, rest) → Reads trees_of AreConjuncts joins 4 (sign s.And ∷ more) next
+    → IsConjunction marks (all_of (formula_of first) (formulas_of others.items)) (seen_all rest.now) × (joins (seen_all rest.now) < 4) × (length (seen_all rest.now) ≤ length marks)
+with_others marks start more before first others rest next u l begins same is h =
+    let k = subst (λ n. Reads trees_of AreConjuncts joins 4 (sign s.And ∷ more) n) is h in
+    (rw same (conjunction (subst (λ z. IsUnary marks (formula_of before) z) begins u) k.0), k.1, omega (arith, k.2, l, ap length begins))
+
+pub with_others_of_any_fail : (marks start more : List Mark) {a : Formula} (next : Result (Vec Tree Global × Bor (List rust.Mark)) Fault) (e : Fault) → IsConjunction marks a start → joins start < 4 → start ≡ sign s.Or ∷ more → next ≡ Err e
+    → Reads trees_of AreDisjuncts joins 3 (sign s.Or ∷ more) next → Fails IsDisjunction joins 3 marks e
+with_others_of_any_fail marks start more {a} next e u stop begins is h =
+    others_of_any_fail marks e (subst (λ z. IsConjunction marks a z) begins u) (subst (λ z. joins z < 4) begins stop) (subst (λ n. Reads trees_of AreDisjuncts joins 3 (sign s.Or ∷ more) n) is h)
+
+pub with_others_of_any : (marks start more : List Mark) (before first : Tree) (others : Vec Tree Global) (rest : Bor (List rust.Mark)) (next : Result (Vec Tree Global × Bor (List rust.Mark)) Fault) → IsConjunction marks (formula_of before) start → length start ≤ length marks
+    → start ≡ sign s.Or ∷ more → first ≡ before → next ≡ Ok (others, rest) → Reads trees_of AreDisjuncts joins 3 (sign s.Or ∷ more) next
+    → IsDisjunction marks (any_of (formula_of first) (formulas_of others.items)) (seen_all rest.now) × (joins (seen_all rest.now) < 3) × (length (seen_all rest.now) ≤ length marks)
+with_others_of_any marks start more before first others rest next u l begins same is h =
+    let k = subst (λ n. Reads trees_of AreDisjuncts joins 3 (sign s.Or ∷ more) n) is h in
+    (rw same (disjunction (subst (λ z. IsConjunction marks (formula_of before) z) begins u) k.0), k.1, omega (arith, k.2, l, ap length begins))
+
+pub with_right_fails : (marks start more : List Mark) {a : Formula} (next : Result (Tree × Bor (List rust.Mark)) Fault) (e : Fault) → IsDisjunction marks a start → start ≡ sign s.Implies ∷ more → next ≡ Err e → Reads formula_of IsImplication joins 2 more next
+    → Fails IsImplication joins 2 marks e
+with_right_fails marks start more {a} next e u begins is h =
+    right_fails marks e (subst (λ z. IsDisjunction marks a z) begins u) (subst (λ n. Reads formula_of IsImplication joins 2 more n) is h)
+
+pub with_side_fails : (marks start more : List Mark) {a : Formula} (next : Result (Tree × Bor (List rust.Mark)) Fault) (e : Fault) → Sides marks start a → start ≡ sign s.Iff ∷ more → next ≡ Err e → Reads formula_of IsImplication joins 2 more next → Fails IsFormula joins 1 marks e
+with_side_fails marks start more {a} next e u begins is h =
+    sides_fail marks e (subst (λ z. Sides marks z a) begins u) (subst (λ n. Reads formula_of IsImplication joins 2 more n) is h)
+
+pub with_side : (marks start more : List Mark) (left before right : Tree) (rest : Bor (List rust.Mark)) (next : Result (Tree × Bor (List rust.Mark)) Fault) → Sides marks start (formula_of left) → start ≡ sign s.Iff ∷ more → before ≡ left → next ≡ Ok (right, rest)
+    → Reads formula_of IsImplication joins 2 more next → Sides marks (seen_all rest.now) (iff (formula_of before) (formula_of right))
+with_side marks start more left before right rest next u begins same is h =
+    let k = subst (λ n. Reads formula_of IsImplication joins 2 more n) is h in
+    rw same (sides_more (subst (λ z. Sides marks z (formula_of left)) begins u) k.0 k.1 k.2)
 
 pub ruleset reading = (negation, group, every, some, atomic, scope, predicate, compares, comparison, plain, implication, stops_and, stops_or, stops_implies, stops_iff, sides_begin, sides_end)

@@ -13,7 +13,7 @@ use Rattle.ec_parse.specs.Lists.{IsVariable, AreParted}
 use Rattle.std.specs.declared.vec.Vec.{Vec}
 use Rattle.std.specs.declared.alloc.Global.{Global}
 use Rattle.ec_syntax.specs.declared.tree.Tree.{Tree}
-use Rattle.ec_syntax.specs.View.{formula_of}
+use Rattle.ec_syntax.specs.View.{formula_of, formulas_of}
 
 -- How tightly a sign joins formulas.
 abbrev pub joining : Sign → ℕ
@@ -126,3 +126,6 @@ mutual
 -- what the code reads of it
 abbrev pub scope_of : Vec (List ℕ) Global × Tree → Scope
 scope_of r = record { names = r.0.items; within = formula_of r.1 }
+
+abbrev pub trees_of : Vec Tree Global → Formulas
+trees_of v = formulas_of v.items

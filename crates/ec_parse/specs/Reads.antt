@@ -1,5 +1,5 @@
 -- What a function of the parser answers.
-use Rattle.std.specs.Prelude.{ℕ, ℤ, [], ◌<◌, ◌≤◌, List, length, map, Result, Ok, Err}
+use Rattle.std.specs.Prelude.{◌≡◌, ◌∷◌, ℕ, ℤ, [], ◌<◌, ◌≤◌, List, length, map, Result, Ok, Err}
 use Rattle.std.specs.Borrow.{Bor}
 use Rattle.std.specs.declared.vec.Vec.{Vec}
 use Rattle.std.specs.declared.alloc.Global.{Global}
@@ -11,7 +11,8 @@ use Rattle.ec_syntax.specs.Written.{Terms, Shape}
 use Rattle.ec_syntax.specs.View.{terms_of, shape_of}
 use Rattle.ec_syntax.specs.declared.statement.SortItem.{SortItem}
 use Rattle.ec_syntax.specs.declared.statement.Shape as rust_shape
-use Rattle.ec_parse.specs.Mark.{Mark, seen_all}
+use Rattle.ec_parse.specs.declared.mark.Sign.{Sign}
+use Rattle.ec_parse.specs.Mark.{Mark, sign, seen_all, Lacks}
 
 -- A rule relates marks, what they spell, and the marks behind it.
 abbrev pub Rule : Type 0 → Type 1
@@ -30,6 +31,16 @@ Fails {X} R level n ms Syntax = (a : X) (rest : List Mark) → R ms a rest → l
 abbrev pub Reads : {A X : Type 0} → (A → X) → Rule X → (List Mark → ℕ) → ℕ → List Mark → Result (A × Bor (List rust.Mark)) Fault → Type 0
 Reads view R level n ms (Ok r) = R ms (view r.0) (seen_all r.1.now) × (level (seen_all r.1.now) < n) × (length (seen_all r.1.now) ≤ length ms)
 Reads view R level n ms (Err e) = Fails R level n ms e
+
+-- What was read, before a sign.
+abbrev pub IsClosed : {A : Type 0} → A → List Mark → Sign → Result (A × Bor (List rust.Mark)) Fault → Type 0
+IsClosed read ms close (Ok r) = (r.0 ≡ read) × (ms ≡ sign close ∷ seen_all r.1.now)
+IsClosed read ms close (Err e) = (e ≡ Syntax) × Lacks ms (sign close)
+
+-- What was read before, with what is read next.
+abbrev pub IsWith : {A B : Type 0} → A → Result (B × Bor (List rust.Mark)) Fault → Result ((A × B) × Bor (List rust.Mark)) Fault → Type 0
+IsWith before next (Ok r) = (r.0.0 ≡ before) × (next ≡ Ok (r.0.1, r.1))
+IsWith before next (Err e) = next ≡ Err e
 
 -- What all of the marks spell, by a rule that takes them all.
 abbrev pub Unspelled : {X : Type 0} → (List Mark → X → Type 0) → List Mark → Fault → Type 0

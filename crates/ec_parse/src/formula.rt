@@ -2,11 +2,11 @@
 ghost use Rattle.std.specs.Prelude.{◌≡◌, ◌∷◌, ◌<◌, MatchOption, IfOk, None, Some, List, false};
 ghost use Rattle.ec_parse.specs.Mark.{seen_all};
 ghost use Rattle.ec_parse.specs.Mark as spec;
-ghost use Rattle.ec_parse.specs.Formulas.{IsComparison, IsAtom, IsUnary, IsScope, IsConjunction, IsDisjunction, IsImplication, IsFormula, joins, compared, behind, scope_of};
+ghost use Rattle.ec_parse.specs.Formulas.{IsComparison, IsAtom, IsUnary, IsScope, IsConjunction, AreConjuncts, IsDisjunction, AreDisjuncts, IsImplication, IsFormula, joins, compared, behind, scope_of, trees_of};
 ghost use Rattle.ec_parse.specs.Formulas as formulas;
 ghost use Rattle.ec_parse.specs.Terms as terms;
 ghost use Rattle.ec_parse.specs.declared.mark.Sign.TheVariants as Sign;
-ghost use Rattle.ec_parse.specs.Reads.{Reads, free};
+ghost use Rattle.ec_parse.specs.Reads.{Reads, IsClosed, IsWith, free};
 ghost use Rattle.ec_parse.specs.Lists.{commas};
 ghost use Rattle.ec_syntax.specs.View.{formula_of, term_of, terms_of};
 ghost use Rattle.ec_syntax.specs.Written as written;
@@ -19,6 +19,29 @@ use ec_lex::word::Word;
 use ec_syntax::tree;
 use ec_syntax::tree::{Arg, Op, Tree};
 use std::alloc::{AllocError, Global};
+
+/// What was read, where the sign stands behind it.
+pub(crate) fn closed<'s, 'a, T>(read: T, marks: &'s [Mark<'a>], close: Sign) -> Read<'s, 'a, T>
+where
+    T: Drop,
+    ensures { IsClosed read (seen_all marks.now) close result }
+{
+    match after(marks, close) {
+        Some(rest) => Ok((read, rest)),
+        None => Err(Fault::Syntax),
+    }
+}
+
+/// What was read before, with what is read next.
+fn with<'s, 'a, A, B>(before: A, next: Read<'s, 'a, B>) -> Read<'s, 'a, (A, B)>
+where
+    A: Drop,
+    B: Drop,
+    ensures { IsWith before next.entry result }
+{
+    let (next, rest) = next?;
+    Ok(((before, next), rest))
+}
 
 /// The comparison that a sign stands for.
 fn op_at(sign: Sign) -> Option<Op>
@@ -83,12 +106,6 @@ fn opens(marks: &[Mark<'_>]) -> bool
     matches!(mark, Mark::Sign(Sign::Open))
 }
 
-fn compare(op: Op, left: Arg, right: Arg) -> Tree
-    ensures { formula_of result ≡ written.compare op (term_of left) (term_of right) }
-{
-    Tree::Compare { op, left, right }
-}
-
 #[tactic(auto, using(crate::proofs::FormulaSteps::reading))]
 fn comparison<'s, 'a>(alloc: Global, marks: &'s [Mark<'a>]) -> Read<'s, 'a, Tree>
     ensures { Reads formula_of IsComparison free 1 (seen_all marks.now) result }
@@ -104,7 +121,7 @@ fn comparison<'s, 'a>(alloc: Global, marks: &'s [Mark<'a>]) -> Read<'s, 'a, Tree
     if goes_on(rest) {
         return Err(Fault::Syntax);
     }
-    Ok((compare(op, left, right), rest))
+    Ok((tree::comparison(alloc, op, left, right)?, rest))
 }
 
 fn predicate(name: &Word, args: Vec<Arg>) -> Result<Tree, AllocError>
@@ -165,10 +182,7 @@ fn group<'s, 'a>(alloc: Global, marks: &'s [Mark<'a>]) -> Read<'s, 'a, Tree>
     ensures { Reads formula_of IsUnary free 1 (spec.sign Sign.Open ∷ seen_all marks.now) result }
 {
     let (inner, rest) = formula(alloc, marks)?;
-    match after(rest, Sign::Close) {
-        Some(rest) => Ok((inner, rest)),
-        None => Err(Fault::Syntax),
-    }
+    closed(inner, rest, Sign::Close)
 }
 
 /// Behind an opening bracket.
@@ -215,14 +229,29 @@ fn scope<'s, 'a>(
 fn conjunction<'s, 'a>(alloc: Global, marks: &'s [Mark<'a>]) -> Read<'s, 'a, Tree>
     ensures { Reads formula_of IsConjunction joins 4 (seen_all marks.now) result }
 {
+    let (first, rest) = unary(alloc, marks)?;
+    let Some(more) = after(rest, Sign::And) else {
+        return Ok((first, rest));
+    };
+    let ((first, others), rest) = with(first, conjuncts(alloc, more))?;
+    Ok((tree::conjunction(first, others)?, rest))
+}
+
+/// The parts behind the first, of which the first sign is read.
+#[cycle(formulas)]
+#[tactic(auto, using(crate::proofs::FormulaSteps::reading))]
+fn conjuncts<'s, 'a>(alloc: Global, marks: &'s [Mark<'a>]) -> Read<'s, 'a, Vec<Tree>>
+    ensures { Reads trees_of AreConjuncts joins 4 (spec.sign Sign.And ∷ seen_all marks.now) result }
+{
     let (first, mut rest) = unary(alloc, marks)?;
-    let mut others = Vec::new(alloc);
+    let mut found = Vec::new(alloc);
+    found.push(first)?;
     'parts: while let Some(more) = after(rest, Sign::And) {
         let (next, behind) = unary(alloc, more)?;
-        others.push(next)?;
+        found.push(next)?;
         rest = behind;
     }
-    Ok((tree::conjunction(first, others)?, rest))
+    Ok((found, rest))
 }
 
 #[cycle(formulas)]
@@ -230,14 +259,29 @@ fn conjunction<'s, 'a>(alloc: Global, marks: &'s [Mark<'a>]) -> Read<'s, 'a, Tre
 fn disjunction<'s, 'a>(alloc: Global, marks: &'s [Mark<'a>]) -> Read<'s, 'a, Tree>
     ensures { Reads formula_of IsDisjunction joins 3 (seen_all marks.now) result }
 {
+    let (first, rest) = conjunction(alloc, marks)?;
+    let Some(more) = after(rest, Sign::Or) else {
+        return Ok((first, rest));
+    };
+    let ((first, others), rest) = with(first, disjuncts(alloc, more))?;
+    Ok((tree::disjunction(first, others)?, rest))
+}
+
+/// The parts behind the first, of which the first sign is read.
+#[cycle(formulas)]
+#[tactic(auto, using(crate::proofs::FormulaSteps::reading))]
+fn disjuncts<'s, 'a>(alloc: Global, marks: &'s [Mark<'a>]) -> Read<'s, 'a, Vec<Tree>>
+    ensures { Reads trees_of AreDisjuncts joins 3 (spec.sign Sign.Or ∷ seen_all marks.now) result }
+{
     let (first, mut rest) = conjunction(alloc, marks)?;
-    let mut others = Vec::new(alloc);
+    let mut found = Vec::new(alloc);
+    found.push(first)?;
     'parts: while let Some(more) = after(rest, Sign::Or) {
         let (next, behind) = conjunction(alloc, more)?;
-        others.push(next)?;
+        found.push(next)?;
         rest = behind;
     }
-    Ok((tree::disjunction(first, others)?, rest))
+    Ok((found, rest))
 }
 
 #[cycle(formulas)]
@@ -246,13 +290,11 @@ fn implication<'s, 'a>(alloc: Global, marks: &'s [Mark<'a>]) -> Read<'s, 'a, Tre
     ensures { Reads formula_of IsImplication joins 2 (seen_all marks.now) result }
 {
     let (left, rest) = disjunction(alloc, marks)?;
-    match after(rest, Sign::Implies) {
-        Some(more) => {
-            let (right, rest) = implication(alloc, more)?;
-            Ok((tree::implication(alloc, left, right)?, rest))
-        }
-        None => Ok((left, rest)),
-    }
+    let Some(more) = after(rest, Sign::Implies) else {
+        return Ok((left, rest));
+    };
+    let ((left, right), rest) = with(left, implication(alloc, more))?;
+    Ok((tree::implication(alloc, left, right)?, rest))
 }
 
 /// The longest formula at the front.
@@ -263,8 +305,8 @@ pub(crate) fn formula<'s, 'a>(alloc: Global, marks: &'s [Mark<'a>]) -> Read<'s, 
 {
     let (mut left, mut rest) = implication(alloc, marks)?;
     'sides: while let Some(more) = after(rest, Sign::Iff) {
-        let (right, behind) = implication(alloc, more)?;
-        left = tree::equivalence(alloc, left, right)?;
+        let ((before, right), behind) = with(left, implication(alloc, more))?;
+        left = tree::equivalence(alloc, before, right)?;
         rest = behind;
     }
     Ok((left, rest))

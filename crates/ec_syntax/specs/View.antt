@@ -1,5 +1,5 @@
 -- What the types of the crate stand for.
-use Rattle.std.specs.Prelude.{ℕ, List, [], ◌∷◌, map, Option}
+use Rattle.std.specs.Prelude.{List, [], ◌∷◌, map}
 use Rattle.ec_syntax.specs.Written as w
 use Rattle.ec_syntax.specs.Written.{Term, Terms, no_terms, term, Formula, Formulas, no_formulas, formula}
 use Rattle.ec_syntax.specs.declared.tree.Arg.{Arg, fold-Arg}
@@ -43,7 +43,7 @@ listed_formulas (t ∷ ts) = formula t (listed_formulas ts)
 -- one level of a formula, with each part already seen as its formula
 abbrev pub formula_step : Tree-F Formula → Formula
 formula_step (Tree-F.Atom n args) = w.atom n (terms_of args.items)
-formula_step (Tree-F.Compare op a b) = w.compare op (term_of a) (term_of b)
+formula_step (Tree-F.Compare op a b) = w.compare op (term_of a.value) (term_of b.value)
 formula_step (Tree-F.Not a) = w.not a.value
 formula_step (Tree-F.And ts) = w.and (listed_formulas ts.items)
 formula_step (Tree-F.Or ts) = w.or (listed_formulas ts.items)

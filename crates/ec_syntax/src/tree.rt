@@ -35,36 +35,61 @@ pub enum Arg {
 /// `And` and `Or` have two parts or more. The names of a quantifier stand in the order written.
 #[derive(Debug, Drop)]
 pub enum Tree {
-    Atom { name: Word, args: Vec<Arg> },
-    Compare { op: Op, left: Arg, right: Arg },
+    Atom {
+        name: Word,
+        args: Vec<Arg>,
+    },
+    Compare {
+        op: Op,
+        left: Box<Arg>,
+        right: Box<Arg>,
+    },
     Not(Box<Tree>),
     And(Vec<Tree>),
     Or(Vec<Tree>),
     Implies(Box<Tree>, Box<Tree>),
     Iff(Box<Tree>, Box<Tree>),
-    ForAll { names: Vec<Word>, scope: Box<Tree> },
-    Exists { names: Vec<Word>, scope: Box<Tree> },
+    ForAll {
+        names: Vec<Word>,
+        scope: Box<Tree>,
+    },
+    Exists {
+        names: Vec<Word>,
+        scope: Box<Tree>,
+    },
+}
+
+/// Both terms, each in a box.
+fn boxed_terms(alloc: Global, left: Arg, right: Arg) -> Result<(Box<Arg>, Box<Arg>), AllocError>
+    ensures { IfOk result (λ sides. (sides.0.value ≡ left) × (sides.1.value ≡ right)) }
+{
+    let left = Box::new(alloc, left)?;
+    let right = Box::new(alloc, right)?;
+    Ok((left, right))
 }
 
 /// The sum of two terms.
 pub fn sum(alloc: Global, left: Arg, right: Arg) -> Result<Arg, AllocError>
     ensures { IfOk result (λ a. term_of a ≡ written.sum (term_of left) (term_of right)) }
 {
-    Ok(Arg::Sum(Box::new(alloc, left)?, Box::new(alloc, right)?))
+    let (left, right) = boxed_terms(alloc, left, right)?;
+    Ok(Arg::Sum(left, right))
 }
 
 /// The difference of two terms.
 pub fn difference(alloc: Global, left: Arg, right: Arg) -> Result<Arg, AllocError>
     ensures { IfOk result (λ a. term_of a ≡ written.difference (term_of left) (term_of right)) }
 {
-    Ok(Arg::Difference(Box::new(alloc, left)?, Box::new(alloc, right)?))
+    let (left, right) = boxed_terms(alloc, left, right)?;
+    Ok(Arg::Difference(left, right))
 }
 
 /// The product of two terms.
 pub fn product(alloc: Global, left: Arg, right: Arg) -> Result<Arg, AllocError>
     ensures { IfOk result (λ a. term_of a ≡ written.product (term_of left) (term_of right)) }
 {
-    Ok(Arg::Product(Box::new(alloc, left)?, Box::new(alloc, right)?))
+    let (left, right) = boxed_terms(alloc, left, right)?;
+    Ok(Arg::Product(left, right))
 }
 
 /// A term with `-` before it.
@@ -74,6 +99,14 @@ pub fn negative(alloc: Global, of: Arg) -> Result<Arg, AllocError>
     Ok(Arg::Negative(Box::new(alloc, of)?))
 }
 
+/// A comparison of two terms.
+pub fn comparison(alloc: Global, op: Op, left: Arg, right: Arg) -> Result<Tree, AllocError>
+    ensures { IfOk result (λ t. formula_of t ≡ written.compare op (term_of left) (term_of right)) }
+{
+    let (left, right) = boxed_terms(alloc, left, right)?;
+    Ok(Tree::Compare { op, left, right })
+}
+
 /// A formula with `!` before it.
 pub fn negation(alloc: Global, of: Tree) -> Result<Tree, AllocError>
     ensures { IfOk result (λ t. formula_of t ≡ written.not (formula_of of)) }
@@ -81,40 +114,59 @@ pub fn negation(alloc: Global, of: Tree) -> Result<Tree, AllocError>
     Ok(Tree::Not(Box::new(alloc, of)?))
 }
 
+/// All of the formulas.
+fn joined(first: Tree, mut others: Vec<Tree>) -> Result<Vec<Tree>, AllocError>
+    ensures { IfOk result (λ parts. formulas_of parts.items ≡ written.formula (formula_of first) (formulas_of others.items)) }
+{
+    others.insert(0, first)?;
+    Ok(others)
+}
+
 /// The first formula alone where there are no others, or And of all.
-pub fn conjunction(first: Tree, mut others: Vec<Tree>) -> Result<Tree, AllocError>
+pub fn conjunction(first: Tree, others: Vec<Tree>) -> Result<Tree, AllocError>
     ensures { IfOk result (λ t. formula_of t ≡ written.all_of (formula_of first) (formulas_of others.items)) }
 {
     if others.is_empty() {
         return Ok(first);
     }
-    others.insert(0, first)?;
-    Ok(Tree::And(others))
+    let parts = joined(first, others)?;
+    Ok(Tree::And(parts))
 }
 
 /// The first formula alone where there are no others, or Or of all.
-pub fn disjunction(first: Tree, mut others: Vec<Tree>) -> Result<Tree, AllocError>
+pub fn disjunction(first: Tree, others: Vec<Tree>) -> Result<Tree, AllocError>
     ensures { IfOk result (λ t. formula_of t ≡ written.any_of (formula_of first) (formulas_of others.items)) }
 {
     if others.is_empty() {
         return Ok(first);
     }
-    others.insert(0, first)?;
-    Ok(Tree::Or(others))
+    let parts = joined(first, others)?;
+    Ok(Tree::Or(parts))
+}
+
+/// Both formulas, each in a box.
+fn boxed(alloc: Global, left: Tree, right: Tree) -> Result<(Box<Tree>, Box<Tree>), AllocError>
+    ensures { IfOk result (λ sides. (sides.0.value ≡ left) × (sides.1.value ≡ right)) }
+{
+    let left = Box::new(alloc, left)?;
+    let right = Box::new(alloc, right)?;
+    Ok((left, right))
 }
 
 /// That the left formula implies the right one.
 pub fn implication(alloc: Global, left: Tree, right: Tree) -> Result<Tree, AllocError>
     ensures { IfOk result (λ t. formula_of t ≡ written.implies (formula_of left) (formula_of right)) }
 {
-    Ok(Tree::Implies(Box::new(alloc, left)?, Box::new(alloc, right)?))
+    let (left, right) = boxed(alloc, left, right)?;
+    Ok(Tree::Implies(left, right))
 }
 
 /// That both formulas hold or neither.
 pub fn equivalence(alloc: Global, left: Tree, right: Tree) -> Result<Tree, AllocError>
     ensures { IfOk result (λ t. formula_of t ≡ written.iff (formula_of left) (formula_of right)) }
 {
-    Ok(Tree::Iff(Box::new(alloc, left)?, Box::new(alloc, right)?))
+    let (left, right) = boxed(alloc, left, right)?;
+    Ok(Tree::Iff(left, right))
 }
 
 /// That the formula holds for all values of the names.

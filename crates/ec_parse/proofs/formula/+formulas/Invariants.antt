@@ -1,6 +1,7 @@
-use Rattle.std.proofs.Common.{◌≡◌, ◌+◌, ◌*◌, length}
+use Rattle.std.proofs.Common.{◌+◌, ◌*◌, ◌∷◌, length}
+use Rattle.ec_parse.specs.declared.mark.Sign.TheVariants.{And, Or}
 use Rattle.ec_syntax.specs.View.{formula_of}
-use Rattle.ec_parse.specs.Mark.{seen_all}
+use Rattle.ec_parse.specs.Mark.{seen_all, sign}
 use Rattle.ec_parse.proofs.FormulaSteps.{Conjuncts, Disjuncts, Sides}
 use Rattle.ec_parse.proofs.formula.+formulas.Given as goal
 
@@ -35,17 +36,23 @@ decreases-every l = 9 * length (seen_all l.marks.now) + 6
 abbrev pub decreases-some : goal.decreases-some
 decreases-some l = 9 * length (seen_all l.marks.now) + 6
 
-abbrev pub invariant-conjunction-parts : goal.invariant-conjunction-parts
-invariant-conjunction-parts l = (l.first ≡ l.initial.first) × Conjuncts (seen_all l.initial.rest) (seen_all l.rest) l.others.items
+abbrev pub decreases-conjuncts : goal.decreases-conjuncts
+decreases-conjuncts l = 9 * length (seen_all l.marks.now) + 5
 
-abbrev pub decreases-conjunction-parts : goal.decreases-conjunction-parts
-decreases-conjunction-parts l = length (seen_all l.rest)
+abbrev pub decreases-disjuncts : goal.decreases-disjuncts
+decreases-disjuncts l = 9 * length (seen_all l.marks.now) + 5
 
-abbrev pub invariant-disjunction-parts : goal.invariant-disjunction-parts
-invariant-disjunction-parts l = (l.first ≡ l.initial.first) × Disjuncts (seen_all l.initial.rest) (seen_all l.rest) l.others.items
+abbrev pub invariant-conjuncts-parts : goal.invariant-conjuncts-parts
+invariant-conjuncts-parts l = Conjuncts (sign And ∷ seen_all l.marks) (seen_all l.rest) l.found.items
 
-abbrev pub decreases-disjunction-parts : goal.decreases-disjunction-parts
-decreases-disjunction-parts l = length (seen_all l.rest)
+abbrev pub decreases-conjuncts-parts : goal.decreases-conjuncts-parts
+decreases-conjuncts-parts l = length (seen_all l.rest)
+
+abbrev pub invariant-disjuncts-parts : goal.invariant-disjuncts-parts
+invariant-disjuncts-parts l = Disjuncts (sign Or ∷ seen_all l.marks) (seen_all l.rest) l.found.items
+
+abbrev pub decreases-disjuncts-parts : goal.decreases-disjuncts-parts
+decreases-disjuncts-parts l = length (seen_all l.rest)
 
 abbrev pub invariant-formula-sides : goal.invariant-formula-sides
 invariant-formula-sides l = Sides (seen_all l.marks) (seen_all l.rest) (formula_of l.left)
