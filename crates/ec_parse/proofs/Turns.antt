@@ -10,12 +10,14 @@ use Rattle.ec_parse.specs.declared.cut.Form.TheVariants.{Alone, Line, Sentence}
 use Rattle.ec_syntax.specs.declared.statement.Statement as rust
 use Rattle.ec_syntax.specs.declared.statement.Content as content
 use Rattle.ec_syntax.specs.Written.{Formula, Content}
-use Rattle.ec_syntax.specs.View.{content_of, statement_of}
+use Rattle.std.specs.Prelude.{Result}
+use Rattle.ec_syntax.specs.declared.tree.Tree.{Tree}
+use Rattle.ec_syntax.specs.View.{content_of, statement_of, formula_of}
 use Rattle.ec_parse.specs.declared.fault.Fault.{Fault}
 use Rattle.ec_parse.specs.declared.fault.Fault.TheVariants as F
 use Rattle.ec_parse.specs.declared.mark.Mark as mark
 use Rattle.ec_parse.specs.Mark.{Mark, sign, marks, seen_all, Lacks}
-use Rattle.ec_parse.specs.Reads.{Fails, Unspelled}
+use Rattle.ec_parse.specs.Reads.{Fails, Unspelled, Whole, IsEnded}
 use Rattle.ec_parse.specs.Mark as m
 use Rattle.ec_parse.specs.Terms.{bare}
 use Rattle.ec_parse.specs.Formulas.{joins, IsFormula, implications, no_side, plain, disjunction, no_disjunct, conjunction, no_conjunct, atomic, predicate}
@@ -70,8 +72,12 @@ statements_one (fault n f) (fault k g) = refl
 pub no_stop : {ms mid : List Mark} {a b : Formula} → IsFormula ms a mid → joins mid < 1 → Lacks mid (sign s.Stop) → IsStopped ms b → ⊥
 no_stop u l lacks d = lacks [] (formula_one u l d (omega arith)).1
 
-pub no_stop_end : {ms rest : List Mark} {a b : Formula} → IsFormula ms a (sign s.Stop ∷ rest) → (rest ≡ [] → ⊥) → IsStopped ms b → ⊥
+no_stop_end : {ms rest : List Mark} {a b : Formula} → IsFormula ms a (sign s.Stop ∷ rest) → (rest ≡ [] → ⊥) → IsStopped ms b → ⊥
 no_stop_end u n d = n (tail_of (formula_one u (omega arith) d (omega arith)).1)
+
+pub stopped_whole : (ms mid rest : List Mark) (read tree : Tree) (result : Result Tree Fault) → IsFormula ms (formula_of read) mid → tree ≡ read → mid ≡ sign s.Stop ∷ rest → IsEnded tree rest result → Whole formula_of IsStopped ms result
+stopped_whole ms mid rest read tree (Ok t) u same is h = rw (h.0, same) (subst (λ z. IsFormula ms (formula_of read) z) (is ∙ ap (λ z. sign s.Stop ∷ z) h.1) u)
+stopped_whole ms mid rest read tree (Err e) u same is h = rw h.0 (λ x d. no_stop_end (subst (λ z. IsFormula ms (formula_of read) z) is u) h.1 d)
 
 pub stopped_fails : (ms : List Mark) (e : Fault) → Fails IsFormula joins 1 ms e → Unspelled IsStopped ms e
 stopped_fails ms F.Memory f = tt

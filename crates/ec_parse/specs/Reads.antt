@@ -1,5 +1,5 @@
 -- What a function of the parser answers.
-use Rattle.std.specs.Prelude.{◌≡◌, ◌∷◌, ℕ, ℤ, [], ◌<◌, ◌≤◌, List, length, map, Result, Ok, Err}
+use Rattle.std.specs.Prelude.{◌≡◌, ◌≢◌, ◌∷◌, ℕ, ℤ, [], ◌<◌, ◌≤◌, List, length, map, Result, Ok, Err}
 use Rattle.std.specs.Borrow.{Bor}
 use Rattle.std.specs.declared.vec.Vec.{Vec}
 use Rattle.std.specs.declared.alloc.Global.{Global}
@@ -36,6 +36,11 @@ Reads view R level n ms (Err e) = Fails R level n ms e
 abbrev pub IsClosed : {A : Type 0} → A → List Mark → Sign → Result (A × Bor (List rust.Mark)) Fault → Type 0
 IsClosed read ms close (Ok r) = (r.0 ≡ read) × (ms ≡ sign close ∷ seen_all r.1.now)
 IsClosed read ms close (Err e) = (e ≡ Syntax) × Lacks ms (sign close)
+
+-- What was read, with no mark behind it.
+abbrev pub IsEnded : {A : Type 0} → A → List Mark → Result A Fault → Type 0
+IsEnded read ms (Ok a) = (a ≡ read) × (ms ≡ [])
+IsEnded read ms (Err e) = (e ≡ Syntax) × (ms ≢ [])
 
 -- What was read before, with what is read next.
 abbrev pub IsWith : {A B : Type 0} → A → Result (B × Bor (List rust.Mark)) Fault → Result ((A × B) × Bor (List rust.Mark)) Fault → Type 0

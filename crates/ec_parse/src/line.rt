@@ -6,7 +6,7 @@ ghost use Rattle.ec_parse.specs.Mark as spec;
 ghost use Rattle.ec_parse.specs.Lists.{IsName, AreParted, commas};
 ghost use Rattle.ec_parse.specs.Lines.{IsWhole, IsShape, IsSortItem, IsLine, lower_of};
 ghost use Rattle.ec_parse.specs.Lines as lines;
-ghost use Rattle.ec_parse.specs.Reads.{Reads, Whole, Ending, free, words_of, item_of, items_of, shapes_of, whole_of};
+ghost use Rattle.ec_parse.specs.Reads.{Reads, Whole, Ending, IsEnded, free, words_of, item_of, items_of, shapes_of, whole_of};
 ghost use Rattle.ec_parse.specs.declared.mark.Keyword.TheVariants as Keyword;
 ghost use Rattle.ec_syntax.specs.View.{content_of, shape_of};
 
@@ -184,6 +184,19 @@ pub(crate) fn ends(marks: &[Mark<'_>]) -> bool
     ensures more { result ≡ false → seen_all marks.now ≢ [] }
 {
     next(marks).is_none()
+}
+
+/// What was read, where no mark is left behind it.
+pub(crate) fn ended<T>(read: T, marks: &[Mark<'_>]) -> Result<T, Fault>
+where
+    T: Drop,
+    ensures { IsEnded read (seen_all marks.now) result }
+{
+    if ends(marks) {
+        Ok(read)
+    } else {
+        Err(Fault::Syntax)
+    }
 }
 
 /// The word of a keyword that comes first, and the marks behind it.

@@ -11,8 +11,8 @@ ghost use Rattle.ec_syntax.specs.View.{content_of, formula_of};
 use crate::alone::alone;
 use crate::cut::{Form, form_at, is_deep, statement_len};
 use crate::fault::{Fault, ParseFault};
-use crate::formula::formula;
-use crate::line::{ends, line};
+use crate::formula::{closed, formula};
+use crate::line::{ended, line};
 use crate::list::upper;
 use crate::mark::{Mark, Sign, after, marks_at};
 use crate::term::copied;
@@ -27,14 +27,8 @@ fn stopped(alloc: Global, marks: &[Mark<'_>]) -> Result<Tree, Fault>
     ensures { Whole formula_of IsStopped (seen_all marks.now) result }
 {
     let (tree, rest) = formula(alloc, marks)?;
-    let Some(rest) = after(rest, Sign::Stop) else {
-        return Err(Fault::Syntax);
-    };
-    if ends(rest) {
-        Ok(tree)
-    } else {
-        Err(Fault::Syntax)
-    }
+    let (tree, rest) = closed(tree, rest, Sign::Stop)?;
+    ended(tree, rest)
 }
 
 /// The label that comes first, and the marks behind its colon.
