@@ -240,19 +240,7 @@ pub(crate) fn term_fault(
         Arg::Name { name, args } => application_fault(alloc, names, scope, name, args),
         Arg::Variable(name) => use_fault(alloc, names, scope, name),
         Arg::Number(_) => Ok(None),
-        Arg::Sum(a, b) => {
-            if let Some(fault) = operand_fault(alloc, names, scope, a)? {
-                return Ok(Some(fault));
-            }
-            operand_fault(alloc, names, scope, b)
-        }
-        Arg::Difference(a, b) => {
-            if let Some(fault) = operand_fault(alloc, names, scope, a)? {
-                return Ok(Some(fault));
-            }
-            operand_fault(alloc, names, scope, b)
-        }
-        Arg::Product(a, b) => {
+        Arg::Sum(a, b) | Arg::Difference(a, b) | Arg::Product(a, b) => {
             if let Some(fault) = operand_fault(alloc, names, scope, a)? {
                 return Ok(Some(fault));
             }

@@ -70,15 +70,8 @@ pub(crate) fn formula_fault<'a>(
             compared_fault(alloc, names, scope, *op, left, right)
         }
         Tree::Not(a) => formula_fault(alloc, names, scope, a),
-        Tree::And(parts) => formulas_fault(alloc, names, scope, parts),
-        Tree::Or(parts) => formulas_fault(alloc, names, scope, parts),
-        Tree::Implies(a, b) => {
-            if let Some(fault) = formula_fault(alloc, names, scope, a)? {
-                return Ok(Some(fault));
-            }
-            formula_fault(alloc, names, scope, b)
-        }
-        Tree::Iff(a, b) => {
+        Tree::And(parts) | Tree::Or(parts) => formulas_fault(alloc, names, scope, parts),
+        Tree::Implies(a, b) | Tree::Iff(a, b) => {
             if let Some(fault) = formula_fault(alloc, names, scope, a)? {
                 return Ok(Some(fault));
             }
@@ -87,8 +80,8 @@ pub(crate) fn formula_fault<'a>(
         Tree::ForAll {
             names: variables,
             scope: body,
-        } => { quantified_fault(alloc, names, scope, variables, body) }
-        Tree::Exists {
+        }
+        | Tree::Exists {
             names: variables,
             scope: body,
         } => { quantified_fault(alloc, names, scope, variables, body) }

@@ -47,15 +47,7 @@ fn collect_in_term<'a>(
             meet(found, name)
         }
         Arg::Number(_) => Ok(()),
-        Arg::Sum(a, b) => {
-            collect_in_term(scope, found, a)?;
-            collect_in_term(scope, found, b)
-        }
-        Arg::Difference(a, b) => {
-            collect_in_term(scope, found, a)?;
-            collect_in_term(scope, found, b)
-        }
-        Arg::Product(a, b) => {
+        Arg::Sum(a, b) | Arg::Difference(a, b) | Arg::Product(a, b) => {
             collect_in_term(scope, found, a)?;
             collect_in_term(scope, found, b)
         }
@@ -92,18 +84,14 @@ fn collect<'a>(
             collect_in_term(scope, found, right)
         }
         Tree::Not(a) => collect(scope, found, a),
-        Tree::And(parts) => collect_in_each(scope, found, parts),
-        Tree::Or(parts) => collect_in_each(scope, found, parts),
-        Tree::Implies(a, b) => {
+        Tree::And(parts) | Tree::Or(parts) => collect_in_each(scope, found, parts),
+        Tree::Implies(a, b) | Tree::Iff(a, b) => {
             collect(scope, found, a)?;
             collect(scope, found, b)
         }
-        Tree::Iff(a, b) => {
-            collect(scope, found, a)?;
-            collect(scope, found, b)
-        }
-        Tree::ForAll { names, scope: body } => collect_under(scope, found, names, body),
-        Tree::Exists { names, scope: body } => collect_under(scope, found, names, body),
+        Tree::ForAll { names, scope: body } | Tree::Exists { names, scope: body } => collect_under(
+            scope, found, names, body,
+        ),
     }
 }
 
