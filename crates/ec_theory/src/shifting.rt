@@ -42,25 +42,25 @@ fn shift_formula(
             predicate: *predicate,
             args: shift_terms(alloc, args, from, by)?,
         },
-        Formula::Equal(a, b) => Formula::Equal(
-            shift_term(alloc, a, from, by)?,
-            shift_term(alloc, b, from, by)?,
-        ),
-        Formula::Less(a, b) => Formula::Less(
-            shift_term(alloc, a, from, by)?,
-            shift_term(alloc, b, from, by)?,
-        ),
+        Formula::Equal(a, b) => {
+            let (a, b) = shift_both_terms(alloc, a, b, from, by)?;
+            Formula::Equal(a, b)
+        }
+        Formula::Less(a, b) => {
+            let (a, b) = shift_both_terms(alloc, a, b, from, by)?;
+            Formula::Less(a, b)
+        }
         Formula::Not(f) => Formula::Not(shift_boxed(alloc, f, from, by)?),
         Formula::And(fs) => Formula::And(shift_each(alloc, fs, from, by)?),
         Formula::Or(fs) => Formula::Or(shift_each(alloc, fs, from, by)?),
-        Formula::Implies(f, g) => Formula::Implies(
-            shift_boxed(alloc, f, from, by)?,
-            shift_boxed(alloc, g, from, by)?,
-        ),
-        Formula::Iff(f, g) => Formula::Iff(
-            shift_boxed(alloc, f, from, by)?,
-            shift_boxed(alloc, g, from, by)?,
-        ),
+        Formula::Implies(f, g) => {
+            let (f, g) = shift_both(alloc, f, g, from, by)?;
+            Formula::Implies(f, g)
+        }
+        Formula::Iff(f, g) => {
+            let (f, g) = shift_both(alloc, f, g, from, by)?;
+            Formula::Iff(f, g)
+        }
         Formula::ForAll { sort, scope } => Formula::ForAll {
             sort: *sort,
             scope: shift_under(alloc, scope, from, by)?,
@@ -83,6 +83,25 @@ fn shift_boxed(
     ensures { IfOk result (λ r. formula_tree r.value ≡ shifted from by (formula_tree formula.now)) }
 {
     Ok(Box::new(alloc, shift_formula(alloc, formula, from, by)?)?)
+}
+
+#[cycle(shift_formula)]
+fn shift_both(
+    alloc: Global,
+    f: &Formula,
+    g: &Formula,
+    from: u32,
+    by: u32,
+) -> Result<(Box<Formula>, Box<Formula>), AllocError>
+    requires first { CanShift from by (formula_tree f.now) }
+    requires second { CanShift from by (formula_tree g.now) }
+    ensures first { IfOk result (λ r. formula_tree r.0.value ≡ shifted from by (formula_tree f.now)) }
+    ensures second { IfOk result (λ r. formula_tree r.1.value ≡ shifted from by (formula_tree g.now)) }
+{
+    Ok((
+        shift_boxed(alloc, f, from, by)?,
+        shift_boxed(alloc, g, from, by)?,
+    ))
 }
 
 // In the scope of one more binder.
@@ -135,18 +154,18 @@ pub fn shift_term(alloc: Global, term: &Term, from: u32, by: u32) -> Result<Term
             symbol: *symbol,
             args: shift_terms(alloc, args, from, by)?,
         },
-        Term::Sum(a, b) => Term::Sum(
-            shift_boxed_term(alloc, a, from, by)?,
-            shift_boxed_term(alloc, b, from, by)?,
-        ),
-        Term::Difference(a, b) => Term::Difference(
-            shift_boxed_term(alloc, a, from, by)?,
-            shift_boxed_term(alloc, b, from, by)?,
-        ),
-        Term::Product(a, b) => Term::Product(
-            shift_boxed_term(alloc, a, from, by)?,
-            shift_boxed_term(alloc, b, from, by)?,
-        ),
+        Term::Sum(a, b) => {
+            let (a, b) = shift_both_boxed_terms(alloc, a, b, from, by)?;
+            Term::Sum(a, b)
+        }
+        Term::Difference(a, b) => {
+            let (a, b) = shift_both_boxed_terms(alloc, a, b, from, by)?;
+            Term::Difference(a, b)
+        }
+        Term::Product(a, b) => {
+            let (a, b) = shift_both_boxed_terms(alloc, a, b, from, by)?;
+            Term::Product(a, b)
+        }
     })
 }
 
@@ -163,6 +182,43 @@ fn shift_boxed_term(alloc: Global, term: &Term, from: u32, by: u32) -> Result<Bo
     ensures { IfOk result (λ r. term_tree r.value ≡ shifted_term from by (term_tree term.now)) }
 {
     Ok(Box::new(alloc, shift_term(alloc, term, from, by)?)?)
+}
+
+#[cycle(shift_term)]
+fn shift_both_boxed_terms(
+    alloc: Global,
+    a: &Term,
+    b: &Term,
+    from: u32,
+    by: u32,
+) -> Result<(Box<Term>, Box<Term>), AllocError>
+    requires first { CanShiftTerm from by (term_tree a.now) }
+    requires second { CanShiftTerm from by (term_tree b.now) }
+    ensures first { IfOk result (λ r. term_tree r.0.value ≡ shifted_term from by (term_tree a.now)) }
+    ensures second { IfOk result (λ r. term_tree r.1.value ≡ shifted_term from by (term_tree b.now)) }
+{
+    Ok((
+        shift_boxed_term(alloc, a, from, by)?,
+        shift_boxed_term(alloc, b, from, by)?,
+    ))
+}
+
+fn shift_both_terms(
+    alloc: Global,
+    a: &Term,
+    b: &Term,
+    from: u32,
+    by: u32,
+) -> Result<(Term, Term), AllocError>
+    requires first { CanShiftTerm from by (term_tree a.now) }
+    requires second { CanShiftTerm from by (term_tree b.now) }
+    ensures first { IfOk result (λ r. term_tree r.0 ≡ shifted_term from by (term_tree a.now)) }
+    ensures second { IfOk result (λ r. term_tree r.1 ≡ shifted_term from by (term_tree b.now)) }
+{
+    Ok((
+        shift_term(alloc, a, from, by)?,
+        shift_term(alloc, b, from, by)?,
+    ))
 }
 
 #[cycle(shift_term)]

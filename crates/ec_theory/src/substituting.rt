@@ -1,5 +1,5 @@
 //! Formulas with a term in place of a variable.
-ghost use Rattle.std.specs.Prelude.{◌≡◌, suc, ◌≤◌, ◌<◌, ◌+◌, ◌^◌, IfOk};
+ghost use Rattle.std.specs.Prelude.{◌≡◌, suc, ◌≤◌, ◌<◌, ◌+◌, ◌^◌, max, IfOk};
 ghost use Rattle.ec_logic.specs.Shift.{shifted_term};
 ghost use Rattle.ec_logic.specs.Substitute.{substituted, substituted_each, substituted_term, substituted_terms, substituted_variable, PutsValue};
 ghost use Rattle.ec_logic.specs.Reach.{reach, nesting, nesting_of};
@@ -51,25 +51,25 @@ fn substitute_in_formula(
             predicate: *predicate,
             args: substitute_in_terms(alloc, args, at, term, passed)?,
         },
-        Formula::Equal(a, b) => Formula::Equal(
-            substitute_in_term(alloc, a, at, term, passed)?,
-            substitute_in_term(alloc, b, at, term, passed)?,
-        ),
-        Formula::Less(a, b) => Formula::Less(
-            substitute_in_term(alloc, a, at, term, passed)?,
-            substitute_in_term(alloc, b, at, term, passed)?,
-        ),
+        Formula::Equal(a, b) => {
+            let (a, b) = substitute_in_both_terms(alloc, a, b, at, term, passed)?;
+            Formula::Equal(a, b)
+        }
+        Formula::Less(a, b) => {
+            let (a, b) = substitute_in_both_terms(alloc, a, b, at, term, passed)?;
+            Formula::Less(a, b)
+        }
         Formula::Not(f) => Formula::Not(substitute_in_boxed(alloc, f, at, term, passed)?),
         Formula::And(fs) => Formula::And(substitute_in_each(alloc, fs, at, term, passed)?),
         Formula::Or(fs) => Formula::Or(substitute_in_each(alloc, fs, at, term, passed)?),
-        Formula::Implies(f, g) => Formula::Implies(
-            substitute_in_boxed(alloc, f, at, term, passed)?,
-            substitute_in_boxed(alloc, g, at, term, passed)?,
-        ),
-        Formula::Iff(f, g) => Formula::Iff(
-            substitute_in_boxed(alloc, f, at, term, passed)?,
-            substitute_in_boxed(alloc, g, at, term, passed)?,
-        ),
+        Formula::Implies(f, g) => {
+            let (f, g) = substitute_in_both(alloc, f, g, at, term, passed)?;
+            Formula::Implies(f, g)
+        }
+        Formula::Iff(f, g) => {
+            let (f, g) = substitute_in_both(alloc, f, g, at, term, passed)?;
+            Formula::Iff(f, g)
+        }
         Formula::ForAll { sort, scope } => Formula::ForAll {
             sort: *sort,
             scope: substitute_under(alloc, scope, at, term, passed)?,
@@ -98,6 +98,27 @@ fn substitute_in_boxed(
         alloc,
         substitute_in_formula(alloc, formula, at, term, passed)?,
     )?)
+}
+
+#[cycle(substitute)]
+fn substitute_in_both(
+    alloc: Global,
+    f: &Formula,
+    g: &Formula,
+    at: u32,
+    term: &Term,
+    passed: u32,
+) -> Result<(Box<Formula>, Box<Formula>), AllocError>
+    requires place { at + max (nesting (formula_tree f.now)) (nesting (formula_tree g.now)) < 2 ^ 32 }
+    requires within { passed ≤ at }
+    requires room { reach (term_tree term.now) + (passed + max (nesting (formula_tree f.now)) (nesting (formula_tree g.now))) ≤ 2 ^ 32 }
+    ensures first { IfOk result (λ r. formula_tree r.0.value ≡ substituted at (shifted_term 0 passed (term_tree term.now)) (formula_tree f.now)) }
+    ensures second { IfOk result (λ r. formula_tree r.1.value ≡ substituted at (shifted_term 0 passed (term_tree term.now)) (formula_tree g.now)) }
+{
+    Ok((
+        substitute_in_boxed(alloc, f, at, term, passed)?,
+        substitute_in_boxed(alloc, g, at, term, passed)?,
+    ))
 }
 
 // In the scope of one more binder.
@@ -160,18 +181,18 @@ fn substitute_in_term(
             symbol: *symbol,
             args: substitute_in_terms(alloc, args, at, term, passed)?,
         },
-        Term::Sum(a, b) => Term::Sum(
-            substitute_in_boxed_term(alloc, a, at, term, passed)?,
-            substitute_in_boxed_term(alloc, b, at, term, passed)?,
-        ),
-        Term::Difference(a, b) => Term::Difference(
-            substitute_in_boxed_term(alloc, a, at, term, passed)?,
-            substitute_in_boxed_term(alloc, b, at, term, passed)?,
-        ),
-        Term::Product(a, b) => Term::Product(
-            substitute_in_boxed_term(alloc, a, at, term, passed)?,
-            substitute_in_boxed_term(alloc, b, at, term, passed)?,
-        ),
+        Term::Sum(a, b) => {
+            let (a, b) = substitute_in_both_boxed_terms(alloc, a, b, at, term, passed)?;
+            Term::Sum(a, b)
+        }
+        Term::Difference(a, b) => {
+            let (a, b) = substitute_in_both_boxed_terms(alloc, a, b, at, term, passed)?;
+            Term::Difference(a, b)
+        }
+        Term::Product(a, b) => {
+            let (a, b) = substitute_in_both_boxed_terms(alloc, a, b, at, term, passed)?;
+            Term::Product(a, b)
+        }
     })
 }
 
@@ -207,6 +228,43 @@ fn substitute_in_boxed_term(
     ensures { IfOk result (λ r. term_tree r.value ≡ substituted_term at (shifted_term 0 passed (term_tree term.now)) (term_tree inner.now)) }
 {
     Ok(Box::new(alloc, substitute_in_term(alloc, inner, at, term, passed)?)?)
+}
+
+#[cycle(substitute_in_term)]
+fn substitute_in_both_boxed_terms(
+    alloc: Global,
+    a: &Term,
+    b: &Term,
+    at: u32,
+    term: &Term,
+    passed: u32,
+) -> Result<(Box<Term>, Box<Term>), AllocError>
+    requires { reach (term_tree term.now) + passed ≤ 2 ^ 32 }
+    ensures first { IfOk result (λ r. term_tree r.0.value ≡ substituted_term at (shifted_term 0 passed (term_tree term.now)) (term_tree a.now)) }
+    ensures second { IfOk result (λ r. term_tree r.1.value ≡ substituted_term at (shifted_term 0 passed (term_tree term.now)) (term_tree b.now)) }
+{
+    Ok((
+        substitute_in_boxed_term(alloc, a, at, term, passed)?,
+        substitute_in_boxed_term(alloc, b, at, term, passed)?,
+    ))
+}
+
+fn substitute_in_both_terms(
+    alloc: Global,
+    a: &Term,
+    b: &Term,
+    at: u32,
+    term: &Term,
+    passed: u32,
+) -> Result<(Term, Term), AllocError>
+    requires { reach (term_tree term.now) + passed ≤ 2 ^ 32 }
+    ensures first { IfOk result (λ r. term_tree r.0 ≡ substituted_term at (shifted_term 0 passed (term_tree term.now)) (term_tree a.now)) }
+    ensures second { IfOk result (λ r. term_tree r.1 ≡ substituted_term at (shifted_term 0 passed (term_tree term.now)) (term_tree b.now)) }
+{
+    Ok((
+        substitute_in_term(alloc, a, at, term, passed)?,
+        substitute_in_term(alloc, b, at, term, passed)?,
+    ))
 }
 
 #[cycle(substitute_in_term)]
