@@ -98,6 +98,17 @@ one_step_up signature valid i r p x counts total l h k e walk s within =
     let all = walk s within in
     omega arith
 
+-- the step at a sort without a parent, which ends the walk
+pub root_step_up : (signature : Signature) (i r x : ℕ) (counts : List ℕ) (total : ℕ → ℕ) → i < length signature.sorts → parent_of signature r ≡ None → r < length counts → x ≡ get_or counts r x
+    → ((s : ℕ) → s < length signature.sorts → get_or counts s 0 + one_if (descends signature (length signature.sorts - i) r s) ≡ total s)
+    → (s : ℕ) → s < length signature.sorts → get_or (set counts r (x + 1)) s 0 ≡ total s
+root_step_up signature i r x counts total l h k e walk s within =
+    let read = get_or_read counts r x k e 0 in
+    let more = one_more_at counts r s (x + 1) k (ap (λ n. n + 1) read) in
+    let ends = walk_ends signature (length signature.sorts) i r s l h in
+    let all = walk s within in
+    omega arith
+
 -- the last sort of the walk
 pub last_step_up : (signature : Signature) (i r x : ℕ) (counts : List ℕ) (total : ℕ → ℕ) → length signature.sorts ≡ i → r < length counts → x ≡ get_or counts r x
     → ((s : ℕ) → s < length signature.sorts → get_or counts s 0 + one_if (descends signature (length signature.sorts - i) r s) ≡ total s)

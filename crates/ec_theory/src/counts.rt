@@ -18,7 +18,6 @@ fn sort_of_constant(rows: &SignatureRows, constant: u32) -> u32
 
 // Counts one constant at its sort and at each ancestor of it. No row of parents is longer than the sorts are
 // many.
-#[tactic(auto, using(crate::proofs::CountLemmas::walk_on, crate::proofs::CountLemmas::walk_ends, crate::proofs::CountLemmas::walk_whole, crate::proofs::CountLemmas::walk_counts_first, crate::proofs::CountLemmas::one_more_at, crate::proofs::CountLemmas::parent_known))]
 fn count_upwards(rows: &SignatureRows, counts: &mut Vec<u64>, sort: u32)
     requires valid { IsSignature (signature_of rows.now) }
     requires sort { sort < length (signature_of rows.now).sorts }

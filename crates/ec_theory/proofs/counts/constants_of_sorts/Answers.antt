@@ -4,6 +4,12 @@ use Rattle.ec_theory.specs.Rows.{signature_of, constant_of}
 use Rattle.ec_theory.proofs.CountLemmas.{counts_more, counts_few}
 use Rattle.ec_theory.proofs.counts.constants_of_sorts.Goals as goal
 
+pub count_upwards-requires-clause-valid : goal.count_upwards-requires-clause-valid
+count_upwards-requires-clause-valid c = c.requires
+
+pub count_upwards-requires-clause-each_sort : goal.count_upwards-requires-clause-each_sort
+count_upwards-requires-clause-each_sort c = c.loop-constant.invariant.each_sort
+
 pub count_upwards-requires-clause-few : goal.count_upwards-requires-clause-few
 count_upwards-requires-clause-few c = λ s l.
     let few = counts_few (signature_of c.args.rows.now) c.loop-constant.constant c.loop-constant.counts.items c.loop-constant.invariant s l in
