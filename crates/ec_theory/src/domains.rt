@@ -42,7 +42,6 @@ pub fn domain(alloc: Global, signature: &Signature, sort: u32) -> Result<Vec<Val
     }
 }
 
-#[tactic(auto, using(crate::proofs::DomainLemmas::one_kept, crate::proofs::DomainLemmas::none_kept))]
 fn constants_of(alloc: Global, signature: &Signature, sort: u32) -> Result<Vec<Value>, AllocError>
     requires { is_plain_sort signature.now sort ≡ true }
     ensures { IfOk result (λ values. numbers_of values.items ≡ map pos (filter (is_constant_in signature.now sort) (range_with_len 0 (length signature.now.constants)))) }
