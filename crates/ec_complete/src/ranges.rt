@@ -43,27 +43,29 @@ fn add_ranges(
     ensures { OnOk result (map formula_tree found.new.items ≡ map formula_tree found.old.items ++ ranges (universe_of signature.now) depth (formula_tree formula.now)) }
 {
     match formula {
-        Formula::True => Ok(()),
-        Formula::False => Ok(()),
+        Formula::True | Formula::False => Ok(()),
         Formula::Atom { predicate, args } => {
             let sorts = predicate_row(signature, *predicate);
             add_ranges_of_args(alloc, signature, depth, sorts, args, found)
         }
-        Formula::Equal(a, b) => add_ranges_of_two(alloc, signature, depth, a, b, found),
-        Formula::Less(a, b) => add_ranges_of_two(alloc, signature, depth, a, b, found),
+        Formula::Equal(a, b) | Formula::Less(a, b) => add_ranges_of_two(
+            alloc, signature, depth, a, b, found,
+        ),
         Formula::Not(f) => add_ranges(alloc, signature, depth, f, found),
-        Formula::And(fs) => add_ranges_of_each(alloc, signature, depth, fs, found),
-        Formula::Or(fs) => add_ranges_of_each(alloc, signature, depth, fs, found),
-        Formula::Implies(f, g) => {
+        Formula::And(fs) | Formula::Or(fs) => add_ranges_of_each(
+            alloc, signature, depth, fs, found,
+        ),
+        Formula::Implies(f, g) | Formula::Iff(f, g) => {
             add_ranges(alloc, signature, depth, f, found)?;
             add_ranges(alloc, signature, depth, g, found)
         }
-        Formula::Iff(f, g) => {
-            add_ranges(alloc, signature, depth, f, found)?;
-            add_ranges(alloc, signature, depth, g, found)
-        }
-        Formula::ForAll { sort: _, scope } => add_ranges(alloc, signature, depth + 1, scope, found),
-        Formula::Exists { sort: _, scope } => add_ranges(alloc, signature, depth + 1, scope, found),
+        Formula::ForAll { sort: _, scope } | Formula::Exists { sort: _, scope } => add_ranges(
+            alloc,
+            signature,
+            depth + 1,
+            scope,
+            found,
+        ),
     }
 }
 
@@ -109,9 +111,7 @@ fn add_ranges_of_term(
     ensures { OnOk result (map formula_tree found.new.items ≡ map formula_tree found.old.items ++ term_ranges (universe_of signature.now) depth (term_tree term.now)) }
 {
     match term {
-        Term::Variable(_) => Ok(()),
-        Term::Int(_) => Ok(()),
-        Term::Constant(_) => Ok(()),
+        Term::Variable(_) | Term::Int(_) | Term::Constant(_) => Ok(()),
         Term::Event { symbol, args } => {
             let sorts = event_row(signature, *symbol);
             add_ranges_of_args(alloc, signature, depth, sorts, args, found)
@@ -120,15 +120,7 @@ fn add_ranges_of_term(
             let sorts = fluent_row(signature, *symbol);
             add_ranges_of_args(alloc, signature, depth, sorts, args, found)
         }
-        Term::Sum(a, b) => {
-            add_ranges_of_term(alloc, signature, depth, a, found)?;
-            add_ranges_of_term(alloc, signature, depth, b, found)
-        }
-        Term::Difference(a, b) => {
-            add_ranges_of_term(alloc, signature, depth, a, found)?;
-            add_ranges_of_term(alloc, signature, depth, b, found)
-        }
-        Term::Product(a, b) => {
+        Term::Sum(a, b) | Term::Difference(a, b) | Term::Product(a, b) => {
             add_ranges_of_term(alloc, signature, depth, a, found)?;
             add_ranges_of_term(alloc, signature, depth, b, found)
         }
@@ -222,13 +214,14 @@ fn innermost_variable(term: &Term) -> Option<u32>
 {
     match term {
         Term::Variable(k) => Some(*k),
-        Term::Int(_) => None,
-        Term::Constant(_) => None,
-        Term::Event { symbol: _, args } => innermost_variable_of(args),
-        Term::Fluent { symbol: _, args } => innermost_variable_of(args),
-        Term::Sum(a, b) => nearer_of(innermost_variable(a), innermost_variable(b)),
-        Term::Difference(a, b) => nearer_of(innermost_variable(a), innermost_variable(b)),
-        Term::Product(a, b) => nearer_of(innermost_variable(a), innermost_variable(b)),
+        Term::Int(_) | Term::Constant(_) => None,
+        Term::Event { symbol: _, args } | Term::Fluent { symbol: _, args } => innermost_variable_of(
+            args,
+        ),
+        Term::Sum(a, b) | Term::Difference(a, b) | Term::Product(a, b) => nearer_of(
+            innermost_variable(a),
+            innermost_variable(b),
+        ),
     }
 }
 

@@ -72,8 +72,7 @@ fn mark_at(
     ensures kept { drop start scratch.new ≡ drop start scratch.old }
 {
     match f {
-        Formula::True => {}
-        Formula::False => {}
+        Formula::True | Formula::False => {}
         Formula::Atom { predicate, args } => mark_atom(
             signature,
             atoms,
@@ -82,9 +81,7 @@ fn mark_at(
             *predicate,
             args,
         ),
-        Formula::Equal(_, _) => {}
-        Formula::Less(_, _) => {}
-        Formula::Not(_) => {}
+        Formula::Equal(_, _) | Formula::Less(_, _) | Formula::Not(_) => {}
         Formula::And(fs) => mark_each(signature, atoms, truths, marks, scratch, start, fs),
         Formula::Or(_) => {}
         Formula::Implies(g, h) => {

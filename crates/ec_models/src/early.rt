@@ -29,18 +29,15 @@ fn has_no_effects(f: &Formula) -> bool
     ensures { result ≡ only_has is_no_effect (formula_tree f.now) }
 {
     match f {
-        Formula::True => true,
-        Formula::False => true,
+        Formula::True | Formula::False => true,
         Formula::Atom { predicate, args: _ } => !is_effect_predicate(*predicate),
-        Formula::Equal(_, _) => true,
-        Formula::Less(_, _) => true,
+        Formula::Equal(_, _) | Formula::Less(_, _) => true,
         Formula::Not(g) => has_no_effects(g),
-        Formula::And(fs) => have_no_effects(fs),
-        Formula::Or(fs) => have_no_effects(fs),
-        Formula::Implies(g, h) => has_no_effects(g) && has_no_effects(h),
-        Formula::Iff(g, h) => has_no_effects(g) && has_no_effects(h),
-        Formula::ForAll { sort: _, scope } => has_no_effects(scope),
-        Formula::Exists { sort: _, scope } => has_no_effects(scope),
+        Formula::And(fs) | Formula::Or(fs) => have_no_effects(fs),
+        Formula::Implies(g, h) | Formula::Iff(g, h) => has_no_effects(g) && has_no_effects(h),
+        Formula::ForAll { sort: _, scope } | Formula::Exists { sort: _, scope } => has_no_effects(
+            scope,
+        ),
     }
 }
 

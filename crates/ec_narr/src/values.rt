@@ -43,8 +43,7 @@ fn push_simple(
     match signature.kind(sort) {
         SortKind::Integer => push_integer(out, value.0),
         SortKind::Plain => push_constant(out, signature, value.0),
-        SortKind::Event => Ok(()),
-        SortKind::Fluent => Ok(()),
+        SortKind::Event | SortKind::Fluent => Ok(()),
     }
 }
 

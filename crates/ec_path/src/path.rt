@@ -70,14 +70,14 @@ fn gather<'a>(
             found,
         ),
         Formula::And(parts) => gather_each(alloc, parts, above, found),
-        Formula::True => Ok(()),
-        Formula::False => Ok(()),
-        Formula::Equal(_, _) => Ok(()),
-        Formula::Less(_, _) => Ok(()),
-        Formula::Not(_) => Ok(()),
-        Formula::Or(_) => Ok(()),
-        Formula::Iff(_, _) => Ok(()),
-        Formula::Exists { sort: _, scope: _ } => Ok(()),
+        Formula::True
+        | Formula::False
+        | Formula::Equal(_, _)
+        | Formula::Less(_, _)
+        | Formula::Not(_)
+        | Formula::Or(_)
+        | Formula::Iff(_, _)
+        | Formula::Exists { sort: _, scope: _ } => Ok(()),
     }
 }
 

@@ -32,8 +32,7 @@ fn first_in(plan: &Plan, place: u32, f: &Formula) -> Option<u32>
     ensures { result ≡ first_predicate (is_in (groups_in plan.now) place) (formula_tree f.now) }
 {
     match f {
-        Formula::True => None,
-        Formula::False => None,
+        Formula::True | Formula::False => None,
         Formula::Atom { predicate, args: _ } => {
             if is_in_group(plan, place, *predicate) {
                 Some(*predicate)
@@ -41,15 +40,15 @@ fn first_in(plan: &Plan, place: u32, f: &Formula) -> Option<u32>
                 None
             }
         }
-        Formula::Equal(_, _) => None,
-        Formula::Less(_, _) => None,
+        Formula::Equal(_, _) | Formula::Less(_, _) => None,
         Formula::Not(g) => first_in(plan, place, g),
-        Formula::And(fs) => first_in_each(plan, place, fs),
-        Formula::Or(fs) => first_in_each(plan, place, fs),
-        Formula::Implies(g, h) => first_in(plan, place, g).or(first_in(plan, place, h)),
-        Formula::Iff(g, h) => first_in(plan, place, g).or(first_in(plan, place, h)),
-        Formula::ForAll { sort: _, scope } => first_in(plan, place, scope),
-        Formula::Exists { sort: _, scope } => first_in(plan, place, scope),
+        Formula::And(fs) | Formula::Or(fs) => first_in_each(plan, place, fs),
+        Formula::Implies(g, h) | Formula::Iff(g, h) => first_in(plan, place, g).or(first_in(
+            plan, place, h,
+        )),
+        Formula::ForAll { sort: _, scope } | Formula::Exists { sort: _, scope } => first_in(
+            plan, place, scope,
+        ),
     }
 }
 
@@ -87,14 +86,14 @@ pub(crate) fn form_fault(plan: &Plan, place: u32, f: &Formula) -> Option<FormFau
         },
         Formula::And(fs) => form_fault_of(plan, place, fs),
         Formula::ForAll { sort: _, scope } => form_fault(plan, place, scope),
-        Formula::True => Some(FormFault::NoClause),
-        Formula::False => Some(FormFault::NoClause),
-        Formula::Equal(_, _) => Some(FormFault::NoClause),
-        Formula::Less(_, _) => Some(FormFault::NoClause),
-        Formula::Not(_) => Some(FormFault::NoClause),
-        Formula::Or(_) => Some(FormFault::NoClause),
-        Formula::Iff(_, _) => Some(FormFault::NoClause),
-        Formula::Exists { sort: _, scope: _ } => Some(FormFault::NoClause),
+        Formula::True
+        | Formula::False
+        | Formula::Equal(_, _)
+        | Formula::Less(_, _)
+        | Formula::Not(_)
+        | Formula::Or(_)
+        | Formula::Iff(_, _)
+        | Formula::Exists { sort: _, scope: _ } => Some(FormFault::NoClause),
     }
 }
 

@@ -34,14 +34,14 @@ pub(crate) fn first_head_of_tree(f: &Formula) -> Option<u32>
         Formula::Implies(_, g) => first_head_of_tree(g),
         Formula::And(fs) => first_head_of_trees(fs),
         Formula::ForAll { sort: _, scope } => first_head_of_tree(scope),
-        Formula::True => None,
-        Formula::False => None,
-        Formula::Equal(_, _) => None,
-        Formula::Less(_, _) => None,
-        Formula::Not(_) => None,
-        Formula::Or(_) => None,
-        Formula::Iff(_, _) => None,
-        Formula::Exists { sort: _, scope: _ } => None,
+        Formula::True
+        | Formula::False
+        | Formula::Equal(_, _)
+        | Formula::Less(_, _)
+        | Formula::Not(_)
+        | Formula::Or(_)
+        | Formula::Iff(_, _)
+        | Formula::Exists { sort: _, scope: _ } => None,
     }
 }
 
@@ -67,14 +67,14 @@ pub(crate) fn has_heads(f: &Formula, heads: Heads) -> bool
         Formula::Implies(_, g) => has_heads(g, heads),
         Formula::And(fs) => have_heads(fs, heads),
         Formula::ForAll { sort: _, scope } => has_heads(scope, heads),
-        Formula::True => false,
-        Formula::False => false,
-        Formula::Equal(_, _) => false,
-        Formula::Less(_, _) => false,
-        Formula::Not(_) => false,
-        Formula::Or(_) => false,
-        Formula::Iff(_, _) => false,
-        Formula::Exists { sort: _, scope: _ } => false,
+        Formula::True
+        | Formula::False
+        | Formula::Equal(_, _)
+        | Formula::Less(_, _)
+        | Formula::Not(_)
+        | Formula::Or(_)
+        | Formula::Iff(_, _)
+        | Formula::Exists { sort: _, scope: _ } => false,
     }
 }
 

@@ -30,13 +30,14 @@ fn innermost_variable(t: &Term) -> Option<u32>
 {
     match t {
         Term::Variable(k) => Some(*k),
-        Term::Int(_) => None,
-        Term::Constant(_) => None,
-        Term::Event { symbol: _, args } => innermost_variable_of(args),
-        Term::Fluent { symbol: _, args } => innermost_variable_of(args),
-        Term::Sum(a, b) => nearer_of(innermost_variable(a), innermost_variable(b)),
-        Term::Difference(a, b) => nearer_of(innermost_variable(a), innermost_variable(b)),
-        Term::Product(a, b) => nearer_of(innermost_variable(a), innermost_variable(b)),
+        Term::Int(_) | Term::Constant(_) => None,
+        Term::Event { symbol: _, args } | Term::Fluent { symbol: _, args } => innermost_variable_of(
+            args,
+        ),
+        Term::Sum(a, b) | Term::Difference(a, b) | Term::Product(a, b) => nearer_of(
+            innermost_variable(a),
+            innermost_variable(b),
+        ),
     }
 }
 
@@ -77,9 +78,7 @@ fn term_keeps_at(signature: &Signature, env: &[i64], d: u32, t: &Term) -> bool
     ensures { result ≡ term_keeps (universe_of signature.now) env.now d (term_tree t.now) }
 {
     match t {
-        Term::Variable(_) => true,
-        Term::Int(_) => true,
-        Term::Constant(_) => true,
+        Term::Variable(_) | Term::Int(_) | Term::Constant(_) => true,
         Term::Event { symbol, args } => terms_keep_at(
             signature,
             env,
@@ -94,12 +93,9 @@ fn term_keeps_at(signature: &Signature, env: &[i64], d: u32, t: &Term) -> bool
             Symbol::Fluent(*symbol),
             args,
         ),
-        Term::Sum(a, b) => term_keeps_at(signature, env, d, a)
-            && term_keeps_at(signature, env, d, b),
-        Term::Difference(a, b) => term_keeps_at(signature, env, d, a)
-            && term_keeps_at(signature, env, d, b),
-        Term::Product(a, b) => term_keeps_at(signature, env, d, a)
-            && term_keeps_at(signature, env, d, b),
+        Term::Sum(a, b) | Term::Difference(a, b) | Term::Product(a, b) => term_keeps_at(
+            signature, env, d, a,
+        ) && term_keeps_at(signature, env, d, b),
     }
 }
 
@@ -140,8 +136,7 @@ fn keeps_at(signature: &Signature, scratch: &mut [i64], start: usize, d: u32, f:
     ensures kept { drop start scratch.new ≡ drop start scratch.old }
 {
     match f {
-        Formula::True => true,
-        Formula::False => true,
+        Formula::True | Formula::False => true,
         Formula::Atom { predicate, args } => terms_keep_at(
             signature,
             env_of(scratch, start),
@@ -149,26 +144,17 @@ fn keeps_at(signature: &Signature, scratch: &mut [i64], start: usize, d: u32, f:
             Symbol::Predicate(*predicate),
             args,
         ),
-        Formula::Equal(a, b) => term_keeps_at(signature, env_of(scratch, start), d, a)
-            && term_keeps_at(signature, env_of(scratch, start), d, b),
-        Formula::Less(a, b) => term_keeps_at(signature, env_of(scratch, start), d, a)
-            && term_keeps_at(signature, env_of(scratch, start), d, b),
-        Formula::Not(g) => keeps_at(signature, scratch, start, d, g),
-        Formula::And(fs) => all_keep_at(signature, scratch, start, d, fs),
-        Formula::Or(fs) => all_keep_at(signature, scratch, start, d, fs),
-        Formula::Implies(g, h) => keeps_at(signature, scratch, start, d, g)
-            && keeps_at(signature, scratch, start, d, h),
-        Formula::Iff(g, h) => keeps_at(signature, scratch, start, d, g)
-            && keeps_at(signature, scratch, start, d, h),
-        Formula::ForAll { sort: _, scope } => keeps_under(
+        Formula::Equal(a, b) | Formula::Less(a, b) => term_keeps_at(
             signature,
-            scratch,
-            start,
-            d + 1,
-            0,
-            scope,
-        ),
-        Formula::Exists { sort: _, scope } => keeps_under(
+            env_of(scratch, start),
+            d,
+            a,
+        ) && term_keeps_at(signature, env_of(scratch, start), d, b),
+        Formula::Not(g) => keeps_at(signature, scratch, start, d, g),
+        Formula::And(fs) | Formula::Or(fs) => all_keep_at(signature, scratch, start, d, fs),
+        Formula::Implies(g, h) | Formula::Iff(g, h) => keeps_at(signature, scratch, start, d, g)
+            && keeps_at(signature, scratch, start, d, h),
+        Formula::ForAll { sort: _, scope } | Formula::Exists { sort: _, scope } => keeps_under(
             signature,
             scratch,
             start,

@@ -95,9 +95,7 @@ pub(crate) fn sorts_of_arguments(symbol: &Symbol) -> &[Word]
 {
     match symbol.role {
         Role::Constant => &[],
-        Role::Event => &symbol.sorts,
-        Role::Fluent => &symbol.sorts,
-        Role::Predicate => &symbol.sorts,
+        Role::Event | Role::Fluent | Role::Predicate => &symbol.sorts,
     }
 }
 
@@ -105,9 +103,7 @@ fn is_predicate(symbol: &Symbol) -> bool
     ensures { result ≡ spec.is_predicate (role_of symbol.now.role) }
 {
     match symbol.role {
-        Role::Constant => false,
-        Role::Event => false,
-        Role::Fluent => false,
+        Role::Constant | Role::Event | Role::Fluent => false,
         Role::Predicate => true,
     }
 }
@@ -181,9 +177,7 @@ fn argument_fault(
     }
     match names.kind(sort) {
         SortKind::Integer => number_fault(alloc, names, sort, term_measure(names, term)),
-        SortKind::Plain => Ok(None),
-        SortKind::Event => Ok(None),
-        SortKind::Fluent => Ok(None),
+        SortKind::Plain | SortKind::Event | SortKind::Fluent => Ok(None),
     }
 }
 

@@ -18,9 +18,7 @@ fn constant_sort(symbol: &Symbol) -> Option<&Word>
 {
     match symbol.role {
         Role::Constant => symbol.sorts.first(),
-        Role::Event => None,
-        Role::Fluent => None,
-        Role::Predicate => None,
+        Role::Event | Role::Fluent | Role::Predicate => None,
     }
 }
 
@@ -31,11 +29,11 @@ fn sort_of_term<'n>(names: &'n Names, term: &Arg) -> Option<&'n Word>
     match term {
         Arg::Name { name, args: _ } => constant_sort(names.symbol(name)?),
         Arg::Variable(name) => names.variable_sort(name),
-        Arg::Number(_) => None,
-        Arg::Sum(_, _) => None,
-        Arg::Difference(_, _) => None,
-        Arg::Product(_, _) => None,
-        Arg::Negative(_) => None,
+        Arg::Number(_)
+        | Arg::Sum(_, _)
+        | Arg::Difference(_, _)
+        | Arg::Product(_, _)
+        | Arg::Negative(_) => None,
     }
 }
 
@@ -45,9 +43,7 @@ fn kind_of_constant(names: &Names, sorts: &[Word]) -> Option<SortKind>
 {
     match names.kind(sorts.first()?) {
         SortKind::Plain => Some(SortKind::Plain),
-        SortKind::Integer => None,
-        SortKind::Event => None,
-        SortKind::Fluent => None,
+        SortKind::Integer | SortKind::Event | SortKind::Fluent => None,
     }
 }
 
@@ -69,11 +65,11 @@ fn kind_of_term(names: &Names, term: &Arg) -> Option<SortKind>
     match term {
         Arg::Name { name, args: _ } => kind_of_symbol(names, names.symbol(name)?),
         Arg::Variable(name) => Some(names.kind(names.variable_sort(name)?)),
-        Arg::Number(_) => Some(SortKind::Integer),
-        Arg::Sum(_, _) => Some(SortKind::Integer),
-        Arg::Difference(_, _) => Some(SortKind::Integer),
-        Arg::Product(_, _) => Some(SortKind::Integer),
-        Arg::Negative(_) => Some(SortKind::Integer),
+        Arg::Number(_)
+        | Arg::Sum(_, _)
+        | Arg::Difference(_, _)
+        | Arg::Product(_, _)
+        | Arg::Negative(_) => Some(SortKind::Integer),
     }
 }
 
@@ -140,11 +136,7 @@ pub(crate) fn are_comparable(names: &Names, op: Op, left: &Arg, right: &Arg) -> 
     ensures { result ≡ are_comparable names.now op (term_of left.now) (term_of right.now) }
 {
     match op {
-        Op::Equal => may_be_equal(names, left, right),
-        Op::Unequal => may_be_equal(names, left, right),
-        Op::Less => may_be_ordered(names, left, right),
-        Op::AtMost => may_be_ordered(names, left, right),
-        Op::More => may_be_ordered(names, left, right),
-        Op::AtLeast => may_be_ordered(names, left, right),
+        Op::Equal | Op::Unequal => may_be_equal(names, left, right),
+        Op::Less | Op::AtMost | Op::More | Op::AtLeast => may_be_ordered(names, left, right),
     }
 }

@@ -76,14 +76,14 @@ pub(crate) fn clause_tree(signature: &Signature, f: &Formula) -> Weighed
         Formula::ForAll { sort, scope } => {
             under_binder(size(signature, *sort), clause_tree(signature, scope))
         }
-        Formula::True => no_clause_tree(signature, f),
-        Formula::False => no_clause_tree(signature, f),
-        Formula::Equal(_, _) => no_clause_tree(signature, f),
-        Formula::Less(_, _) => no_clause_tree(signature, f),
-        Formula::Not(_) => no_clause_tree(signature, f),
-        Formula::Or(_) => no_clause_tree(signature, f),
-        Formula::Iff(_, _) => no_clause_tree(signature, f),
-        Formula::Exists { sort: _, scope: _ } => no_clause_tree(signature, f),
+        Formula::True
+        | Formula::False
+        | Formula::Equal(_, _)
+        | Formula::Less(_, _)
+        | Formula::Not(_)
+        | Formula::Or(_)
+        | Formula::Iff(_, _)
+        | Formula::Exists { sort: _, scope: _ } => no_clause_tree(signature, f),
     }
 }
 

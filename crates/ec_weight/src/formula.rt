@@ -35,26 +35,20 @@ pub(crate) fn weight(signature: &Signature, f: &Formula) -> u64
     ensures { result ≡ stopped (weight (universe_of signature.now) (formula_tree f.now)) }
 {
     match f {
-        Formula::True => 1,
-        Formula::False => 1,
+        Formula::True | Formula::False => 1,
         Formula::Atom {
             predicate: _,
             args: _,
         } => 1,
-        Formula::Equal(_, _) => 1,
-        Formula::Less(_, _) => 1,
+        Formula::Equal(_, _) | Formula::Less(_, _) => 1,
         Formula::Not(g) => sum(1, weight(signature, g)),
-        Formula::And(fs) => sum(1, weights(signature, fs)),
-        Formula::Or(fs) => sum(1, weights(signature, fs)),
+        Formula::And(fs) | Formula::Or(fs) => sum(1, weights(signature, fs)),
         Formula::Implies(g, h) => over_two(weight(signature, g), weight(signature, h)),
         Formula::Iff(g, h) => {
             let sides = sum(weight(signature, g), weight(signature, h));
             over_values(2, sides)
         }
-        Formula::ForAll { sort, scope } => {
-            over_values(size(signature, *sort), weight(signature, scope))
-        }
-        Formula::Exists { sort, scope } => {
+        Formula::ForAll { sort, scope } | Formula::Exists { sort, scope } => {
             over_values(size(signature, *sort), weight(signature, scope))
         }
     }

@@ -25,9 +25,7 @@ fn declared(content: &Content) -> u64
     match content {
         Content::Sorts(items) => items.len() as u64,
         Content::Constants { sort: _, names } => names.len() as u64,
-        Content::Events(all) => shapes(all),
-        Content::Fluents(all) => shapes(all),
-        Content::Predicates(all) => shapes(all),
+        Content::Events(all) | Content::Fluents(all) | Content::Predicates(all) => shapes(all),
         _ => 0,
     }
 }
