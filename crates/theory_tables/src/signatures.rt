@@ -1,5 +1,6 @@
 //! Signatures, sizes and domains, worked out by hand.
 use crate::samples::{small_signature, wide_signature};
+use differences::push_difference;
 use ec_theory::{Signature, SortKind, domain, size_of, tuples_of};
 use std::alloc::{AllocError, Global};
 use std::test::Fail;
@@ -50,9 +51,8 @@ fn differing_domains(alloc: Global, signature: &Signature) -> Result<String, All
     for (sort, values) in DOMAINS {
         let got = domain_text(alloc, signature, *sort)?;
         let want = numbers_text(alloc, values.len() as u64, values)?;
-        if got.as_str() != want.as_str() {
-            out.push_str(format!(in alloc; "sort {sort} has {got}, not {want}\n")?.as_str())?;
-        }
+        let row = format!(in alloc; "sort {sort}")?;
+        push_difference(&mut out, &row, &want, &got)?;
     }
     Ok(out)
 }
@@ -83,9 +83,8 @@ fn differing_sizes(alloc: Global, signature: &Signature) -> Result<String, Alloc
     for (sort, want) in SIZES {
         let got = size_text(alloc, signature, *sort)?;
         let want = format!(in alloc; "{want}")?;
-        if got.as_str() != want.as_str() {
-            out.push_str(format!(in alloc; "sort {sort} has {got}, not {want}\n")?.as_str())?;
-        }
+        let row = format!(in alloc; "sort {sort}")?;
+        push_difference(&mut out, &row, &want, &got)?;
     }
     Ok(out)
 }
@@ -119,50 +118,91 @@ fn sizes_stop(rt: HostRuntime) -> Result<(), Fail> {
     Ok(())
 }
 
-/// Constants and their names, and whether they are agents, children and booleans.
-const CONSTANTS: &[(u32, &str, bool, bool, bool)] = &[
-    (0, "James", true, false, false),
-    (1, "Nell", true, true, false),
-    (2, "Ada", true, false, false),
+/// Constants with their names, and whether they are agents, children and booleans.
+const CONSTANTS: &[(u32, &str)] = &[
+    (0, "James true false false"),
+    (1, "Nell true true false"),
+    (2, "Ada true false false"),
+    (3, "no constant"),
 ];
+
+fn constant_text(
+    alloc: Global,
+    signature: &Signature,
+    constant: u32,
+) -> Result<String, AllocError> {
+    if constant >= signature.constants() || signature.sorts() < 8 {
+        return String::from_str(alloc, "no constant");
+    }
+    let name = signature.constant_name(constant).text();
+    let agent = signature.constant_in(constant, 6);
+    let child = signature.constant_in(constant, 7);
+    let boolean = signature.constant_in(constant, 0);
+    format!(in alloc; "{name} {agent} {child} {boolean}")
+}
+
+/// The constants with another text than the one that is wanted, and that text.
+fn differing_constants(alloc: Global, signature: &Signature) -> Result<String, AllocError> {
+    let mut out = String::new(alloc);
+    for (constant, want) in CONSTANTS {
+        let got = constant_text(alloc, signature, *constant)?;
+        let row = format!(in alloc; "constant {constant}")?;
+        push_difference(&mut out, &row, want, &got)?;
+    }
+    Ok(out)
+}
 
 #[test]
 fn constants(rt: HostRuntime) -> Result<(), Fail> {
     let alloc = rt.alloc();
     let signature = small_signature(alloc, false)?;
-    assert_eq!(rt; signature.constants(), 3);
-    for &(constant, name, agent, child, boolean) in CONSTANTS {
-        assert!(rt; constant < signature.constants());
-        assert_eq!(rt; signature.constant_name(constant).text(), name);
-        assert_eq!(rt; signature.constant_in(constant, 6), agent, "{name}");
-        assert_eq!(rt; signature.constant_in(constant, 7), child, "{name}");
-        assert_eq!(rt; signature.constant_in(constant, 0), boolean, "{name}");
-    }
+    assert_eq!(rt; differing_constants(alloc, &signature)?.as_str(), "");
     Ok(())
 }
 
 /// Sorts, what their values are, and their ranges. The last two are not built in.
-const SORTS: &[(u32, SortKind, Option<(i64, i64)>)] = &[
-    (0, SortKind::Plain, None),
-    (1, SortKind::Integer, None),
-    (2, SortKind::Integer, Some((1, 3))),
-    (4, SortKind::Event, None),
-    (5, SortKind::Fluent, None),
-    (7, SortKind::Plain, None),
-    (8, SortKind::Integer, Some((-1, 2))),
+const SORTS: &[(u32, &str)] = &[
+    (0, "Plain None"),
+    (1, "Integer None"),
+    (2, "Integer Some((1, 3))"),
+    (4, "Event None"),
+    (5, "Fluent None"),
+    (7, "Plain None"),
+    (8, "Integer Some((-1, 2))"),
+    (9, "no sort"),
 ];
+
+fn sort_text(alloc: Global, signature: &Signature, sort: u32) -> Result<String, AllocError> {
+    if sort >= signature.sorts() {
+        return String::from_str(alloc, "no sort");
+    }
+    let kind = match signature.kind(sort) {
+        SortKind::Plain => "Plain",
+        SortKind::Integer => "Integer",
+        SortKind::Event => "Event",
+        SortKind::Fluent => "Fluent",
+    };
+    let range = signature.range(sort);
+    format!(in alloc; "{kind} {range:?}")
+}
+
+/// The sorts with another text than the one that is wanted, and that text.
+fn differing_sorts(alloc: Global, signature: &Signature) -> Result<String, AllocError> {
+    let mut out = String::new(alloc);
+    for (sort, want) in SORTS {
+        let got = sort_text(alloc, signature, *sort)?;
+        let row = format!(in alloc; "sort {sort}")?;
+        push_difference(&mut out, &row, want, &got)?;
+    }
+    Ok(out)
+}
 
 #[test]
 fn sorts(rt: HostRuntime) -> Result<(), Fail> {
     let alloc = rt.alloc();
     let signature = small_signature(alloc, false)?;
-    assert_eq!(rt; signature.sorts(), 9);
     assert_eq!(rt; signature.time_sort(), 2);
-    for &(sort, kind, range) in SORTS {
-        assert!(rt; sort < signature.sorts());
-        assert_eq!(rt; signature.kind(sort), kind, "sort {sort}");
-        assert_eq!(rt; signature.range(sort), range, "sort {sort}");
-    }
+    assert_eq!(rt; differing_sorts(alloc, &signature)?.as_str(), "");
     Ok(())
 }
 
