@@ -1,6 +1,7 @@
-//! The top call over files and sinks in memory, row by row. It holds tests, and the words that they and other tests give.
+//! The top call over files and sinks in memory, row by row. It holds tests, and what they and other tests do alike.
 #![tactic(auto)]
 
+pub mod answers;
 #[cfg(test)]
 mod domains;
 #[cfg(test)]

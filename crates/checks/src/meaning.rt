@@ -1,11 +1,13 @@
 //! What small files mean, each list worked out by hand. ` / ` parts the lines.
+use crate::answers::told;
 use crate::listed::listed;
+use differences::push_difference;
 use ec_command::Status;
-use std::alloc::Global;
+use std::alloc::{AllocError, Global};
 use std::test::Fail;
 
 /// The text with its parts as lines.
-fn lines(alloc: Global, parted: &str) -> Result<String, Fail> {
+fn lines(alloc: Global, parted: &str) -> Result<String, AllocError> {
     let mut text = String::new(alloc);
     for part in parted.split(" / ") {
         text.push_str(part)?;
@@ -14,14 +16,15 @@ fn lines(alloc: Global, parted: &str) -> Result<String, Fail> {
     Ok(text)
 }
 
-/// Whether the list of a file is this one; else what was put.
-fn difference(alloc: Global, text: &str, want: &str) -> Result<Option<String>, Fail> {
-    let (out, status) = listed(alloc, &lines(alloc, text)?)?;
-    let want = lines(alloc, want)?;
-    if status == Status::Complete && out.bytes() == want.as_bytes() {
-        return Ok(None);
+/// The files with another list than the one that is wanted.
+fn differing(alloc: Global, rows: &[(&str, &str)]) -> Result<String, AllocError> {
+    let mut out = String::new(alloc);
+    for (text, want) in rows {
+        let got = listed(alloc, &lines(alloc, text)?)?;
+        let want = told(alloc, Status::Complete, lines(alloc, want)?.as_bytes())?;
+        push_difference(&mut out, text, &want, &got)?;
     }
-    Ok(Some(String::from_str(alloc, text)?))
+    Ok(out)
 }
 
 const ENDS_OF_RANGES: &[(&str, &str)] = &[
@@ -77,11 +80,7 @@ const ENDS_OF_RANGES: &[(&str, &str)] = &[
 /// A binder ranges only over the values for which its places are in range.
 #[test]
 fn ends_of_ranges(rt: HostRuntime) -> Result<(), Fail> {
-    let alloc = rt.alloc();
-    for &(text, want) in ENDS_OF_RANGES {
-        let other = difference(alloc, text, want)?;
-        assert!(rt; other.is_none(), "at {text}");
-    }
+    assert_eq!(rt; differing(rt.alloc(), ENDS_OF_RANGES)?.as_str(), "");
     Ok(())
 }
 
@@ -130,11 +129,7 @@ const GROUPS: &[(&str, &str)] = &[
 /// A completed predicate is as small as its own sentences allow, all else being equal.
 #[test]
 fn groups(rt: HostRuntime) -> Result<(), Fail> {
-    let alloc = rt.alloc();
-    for &(text, want) in GROUPS {
-        let other = difference(alloc, text, want)?;
-        assert!(rt; other.is_none(), "at {text}");
-    }
+    assert_eq!(rt; differing(rt.alloc(), GROUPS)?.as_str(), "");
     Ok(())
 }
 
@@ -175,10 +170,6 @@ const TIMES: &[(&str, &str)] = &[
 /// What holds and happens in time.
 #[test]
 fn times(rt: HostRuntime) -> Result<(), Fail> {
-    let alloc = rt.alloc();
-    for &(text, want) in TIMES {
-        let other = difference(alloc, text, want)?;
-        assert!(rt; other.is_none(), "at {text}");
-    }
+    assert_eq!(rt; differing(rt.alloc(), TIMES)?.as_str(), "");
     Ok(())
 }

@@ -1,21 +1,22 @@
 //! The first of two faults in a book. Each row stands behind the same declarations, on line 10.
 use crate::listed::listed;
-use ec_command::Status;
-use std::alloc::Global;
+use differences::push_difference;
+use std::alloc::{AllocError, Global};
 use std::test::Fail;
 
 const DECLARED: &str =
     "sort a\nsort b\na Jim\nb Bob\nrange time 0 3\npredicate P(a)\npredicate Q(b)\npredicate T(time)\npredicate R(a,b)\n";
 
-/// Whether this refusal is put for these statements behind the declarations.
-fn is_refused(alloc: Global, text: &str, want: &str) -> Result<bool, Fail> {
-    let mut whole = String::from_str(alloc, DECLARED)?;
-    whole.push_str(text)?;
-    let (out, status) = listed(alloc, &whole)?;
-    let mut line = String::from_str(alloc, "refused ")?;
-    line.push_str(want)?;
-    line.push('\n')?;
-    Ok(status == Status::Refused && out.bytes() == line.as_bytes())
+/// The statements with another refusal, behind the declarations and before an end, than the one that is wanted.
+fn differing(alloc: Global, rows: &[(&str, &str)], end: &str) -> Result<String, AllocError> {
+    let mut out = String::new(alloc);
+    for (text, want) in rows {
+        let whole = format!(in alloc; "{DECLARED}{text}{end}")?;
+        let got = listed(alloc, whole.as_str())?;
+        let want = format!(in alloc; "Refused refused {want}\n")?;
+        push_difference(&mut out, text, &want, &got)?;
+    }
+    Ok(out)
 }
 
 const OF_SENTENCES: &[(&str, &str)] = &[
@@ -52,10 +53,7 @@ const OF_SENTENCES: &[(&str, &str)] = &[
 /// `zz` are never declared.
 #[test]
 fn of_sentences(rt: HostRuntime) -> Result<(), Fail> {
-    let alloc = rt.alloc();
-    for &(text, want) in OF_SENTENCES {
-        assert!(rt; is_refused(alloc, text, want)?, "at {text}");
-    }
+    assert_eq!(rt; differing(rt.alloc(), OF_SENTENCES, "")?.as_str(), "");
     Ok(())
 }
 
@@ -83,10 +81,7 @@ const OF_DECLARATIONS: &[(&str, &str)] = &[
 /// The words of a declaration in the order written, the tests at one word in their order.
 #[test]
 fn of_declarations(rt: HostRuntime) -> Result<(), Fail> {
-    let alloc = rt.alloc();
-    for &(text, want) in OF_DECLARATIONS {
-        assert!(rt; is_refused(alloc, text, want)?, "at {text}");
-    }
+    assert_eq!(rt; differing(rt.alloc(), OF_DECLARATIONS, "")?.as_str(), "");
     Ok(())
 }
 
@@ -127,10 +122,7 @@ const OF_STATEMENTS: &[(&str, &str)] = &[
 /// Statements in book order, and all of them before the groups: 18 and 17 by statement, then 16 by sentence.
 #[test]
 fn of_statements(rt: HostRuntime) -> Result<(), Fail> {
-    let alloc = rt.alloc();
-    for &(text, want) in OF_STATEMENTS {
-        assert!(rt; is_refused(alloc, text, want)?, "at {text}");
-    }
+    assert_eq!(rt; differing(rt.alloc(), OF_STATEMENTS, "")?.as_str(), "");
     Ok(())
 }
 
@@ -160,11 +152,7 @@ const NO_CLAUSES: &[(&str, &str)] = &[
 /// What is refused in a sentence of a group, walked in reading order with a body before its clause tree.
 #[test]
 fn no_clauses(rt: HostRuntime) -> Result<(), Fail> {
-    let alloc = rt.alloc();
-    for &(text, want) in NO_CLAUSES {
-        let mut whole = String::from_str(alloc, text)?;
-        whole.push_str("\ncompletion L P\ncompletion L Q\n")?;
-        assert!(rt; is_refused(alloc, &whole, want)?, "at {text}");
-    }
+    let end = "\ncompletion L P\ncompletion L Q\n";
+    assert_eq!(rt; differing(rt.alloc(), NO_CLAUSES, end)?.as_str(), "");
     Ok(())
 }

@@ -2,9 +2,10 @@
 ghost use Rattle.ec_edge.specs.Held.{tally_of};
 ghost use Rattle.std.specs.Prelude.{None, false};
 
-use crate::words::words;
-use ec_command::{Status, run};
+use crate::answers::answer;
+use differences::push_difference;
 use ec_edge::{FileFault, Files, MemFiles, MemSink};
+use std::alloc::{AllocError, Global};
 use std::test::Fail;
 
 /// Files in memory that give at most so many bytes at once. They tell nothing.
@@ -37,20 +38,36 @@ impl Files for CutFiles {
     }
 }
 
+const TEXT: &str = "predicate P()\npredicate Q() ; a comment\nP() -> Q().\n";
+
+const LIST: &str =
+    "Complete model 1:\nP\nmodel 2:\nP\nQ().\nmodel 3:\nP\nP().\nQ().\ncomplete: 3\n";
+
+/// The most bytes that a file gives at once.
+const SIZES: &[u32] = &[1, 2, 3, 7, 4096];
+
+/// What the list of the file comes to, given in such pieces.
+fn listed_in_pieces(alloc: Global, most: usize) -> Result<String, AllocError> {
+    let mut held = MemFiles::new(alloc);
+    held.hold("t.e", TEXT.as_bytes())?;
+    let mut files = CutFiles { files: held, most };
+    let mut out = MemSink::new(alloc);
+    answer(alloc, "list t.e", &mut files, &mut out)
+}
+
+/// The sizes of pieces with another list.
+fn differing_sizes(alloc: Global) -> Result<String, AllocError> {
+    let mut out = String::new(alloc);
+    for most in SIZES {
+        let got = listed_in_pieces(alloc, *most as usize)?;
+        let row = format!(in alloc; "{most}")?;
+        push_difference(&mut out, &row, LIST, &got)?;
+    }
+    Ok(out)
+}
+
 #[test]
 fn pieces_of_each_size(rt: HostRuntime) -> Result<(), Fail> {
-    let alloc = rt.alloc();
-    let line = words(alloc, "list t.e")?;
-    let text = "predicate P()\npredicate Q() ; a comment\nP() -> Q().\n";
-    for most in [1usize, 2, 3, 7, 4096] {
-        let mut held = MemFiles::new(alloc);
-        held.hold("t.e", text.as_bytes())?;
-        let mut files = CutFiles { files: held, most };
-        let mut out = MemSink::new(alloc);
-        let status = run(alloc, &line, &mut files, &mut out);
-        assert_eq!(rt; status, Status::Complete, "at {most}");
-        let want = "model 1:\nP\nmodel 2:\nP\nQ().\nmodel 3:\nP\nP().\nQ().\ncomplete: 3\n";
-        assert_eq!(rt; out.bytes(), want.as_bytes(), "at {most}");
-    }
+    assert_eq!(rt; differing_sizes(rt.alloc())?.as_str(), "");
     Ok(())
 }

@@ -1,5 +1,5 @@
 //! The refusal of each kind of fault, worked out by hand.
-use crate::listed::listed;
+use crate::listed::differing_lists;
 use ec_command::Status;
 use std::test::Fail;
 
@@ -74,11 +74,9 @@ const REFUSALS: &[(&str, &str)] = &[
 /// Each file is refused, by the first of its faults.
 #[test]
 fn refusals(rt: HostRuntime) -> Result<(), Fail> {
-    let alloc = rt.alloc();
-    for &(text, want) in REFUSALS {
-        let (out, answer) = listed(alloc, text)?;
-        assert_eq!(rt; answer, Status::Refused, "at {text}");
-        assert_eq!(rt; out.bytes(), want.as_bytes(), "at {text}");
-    }
+    assert_eq!(rt;
+        differing_lists(rt.alloc(), Status::Refused, REFUSALS)?.as_str(),
+        ""
+    );
     Ok(())
 }

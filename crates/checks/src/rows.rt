@@ -1,8 +1,10 @@
 //! Lists of files without events and fluents, worked out by hand, and words that are no job.
-use crate::listed::listed;
-use crate::words::words;
-use ec_command::{Status, run};
+use crate::answers::{answer, told};
+use crate::listed::{differing_lists, listed};
+use differences::push_difference;
+use ec_command::Status;
 use ec_edge::{MemFiles, MemSink};
+use std::alloc::{AllocError, Global};
 use std::test::Fail;
 
 const PREDICATES: &[(&str, &str)] = &[
@@ -87,11 +89,10 @@ const PREDICATES: &[(&str, &str)] = &[
 #[test]
 fn predicates(rt: HostRuntime) -> Result<(), Fail> {
     let alloc = rt.alloc();
-    for &(text, want) in PREDICATES {
-        let (out, answer) = listed(alloc, text)?;
-        assert_eq!(rt; answer, Status::Complete, "at {text}");
-        assert_eq!(rt; out.bytes(), want.as_bytes(), "at {text}");
-    }
+    assert_eq!(rt;
+        differing_lists(alloc, Status::Complete, PREDICATES)?.as_str(),
+        ""
+    );
     Ok(())
 }
 
@@ -114,20 +115,38 @@ const PRECEDENCE: &[(&str, &str)] = &[
     ),
 ];
 
+/// Grouped to the left, the first would have P and R false among its truths.
+const GROUPED: &[(&str, &str)] = &[
+    (
+        "predicate P,Q,R\nP -> Q -> R.\n!P. !R. !Q.",
+        "model 1:\nP\ncomplete: 1\n",
+    ),
+    (
+        "predicate P,Q,R\n(P -> Q) -> R.\n!P. !R. !Q.",
+        "complete: 0\n",
+    ),
+];
+
+/// The pairs of files with two lists.
+fn differing_pairs(alloc: Global) -> Result<String, AllocError> {
+    let mut out = String::new(alloc);
+    for (text, grouped) in PRECEDENCE {
+        let got = listed(alloc, text)?;
+        let want = listed(alloc, grouped)?;
+        push_difference(&mut out, text, &want, &got)?;
+    }
+    Ok(out)
+}
+
 /// Each pair gives the same list: signs bind in their order, `->` to the right and `<->` to the left.
 #[test]
 fn precedence(rt: HostRuntime) -> Result<(), Fail> {
     let alloc = rt.alloc();
-    for &(text, grouped) in PRECEDENCE {
-        let (out, _) = listed(alloc, text)?;
-        let (other, _) = listed(alloc, grouped)?;
-        assert_eq!(rt; out.bytes(), other.bytes(), "at {text}");
-    }
-    // Grouped to the left, the first would have P and R false among its truths.
-    let (right, _) = listed(alloc, "predicate P,Q,R\nP -> Q -> R.\n!P. !R. !Q.")?;
-    assert_eq!(rt; right.bytes(), b"model 1:\nP\ncomplete: 1\n".as_slice());
-    let (left, _) = listed(alloc, "predicate P,Q,R\n(P -> Q) -> R.\n!P. !R. !Q.")?;
-    assert_eq!(rt; left.bytes(), b"complete: 0\n".as_slice());
+    assert_eq!(rt; differing_pairs(alloc)?.as_str(), "");
+    assert_eq!(rt;
+        differing_lists(alloc, Status::Complete, GROUPED)?.as_str(),
+        ""
+    );
     Ok(())
 }
 
@@ -151,15 +170,26 @@ const USAGE_AND_ABSENCE: &[(&str, &str, Status)] = &[
     ("list t.e", "refused E01 t.e:0: t.e\n", Status::Refused),
 ];
 
+/// What a line comes to where there is no file.
+fn answer_alone(alloc: Global, line: &str) -> Result<String, AllocError> {
+    let mut files = MemFiles::new(alloc);
+    let mut out = MemSink::new(alloc);
+    answer(alloc, line, &mut files, &mut out)
+}
+
+/// The lines with another answer than the one that is wanted.
+fn differing_lines(alloc: Global) -> Result<String, AllocError> {
+    let mut out = String::new(alloc);
+    for (line, want, status) in USAGE_AND_ABSENCE {
+        let got = answer_alone(alloc, line)?;
+        let want = told(alloc, *status, want.as_bytes())?;
+        push_difference(&mut out, line, &want, &got)?;
+    }
+    Ok(out)
+}
+
 #[test]
 fn usage_and_absence(rt: HostRuntime) -> Result<(), Fail> {
-    let alloc = rt.alloc();
-    for &(line, want, status) in USAGE_AND_ABSENCE {
-        let mut files = MemFiles::new(alloc);
-        let mut out = MemSink::new(alloc);
-        let answer = run(alloc, &words(alloc, line)?, &mut files, &mut out);
-        assert_eq!(rt; answer, status, "at {line}");
-        assert_eq!(rt; out.bytes(), want.as_bytes(), "at {line}");
-    }
+    assert_eq!(rt; differing_lines(rt.alloc())?.as_str(), "");
     Ok(())
 }

@@ -1,70 +1,99 @@
 //! Faults of the files and of the sink in a search.
+use crate::solved::{bytes_told, held};
 use crate::texts::{WOKE, WOKE_LIST};
-use checks::words::words;
-use ec_command::{Status, run};
+use checks::answers::{answer, told};
+use differences::push_difference;
+use ec_command::Status;
 use ec_edge::{MemFiles, MemSink};
+use std::alloc::{AllocError, Global};
 use std::test::Fail;
 
-/// The third line is refused: its first half stands behind those before it, and the log is whole.
-#[test]
-fn third_put(rt: HostRuntime) -> Result<(), Fail> {
-    let alloc = rt.alloc();
-    let mut files = MemFiles::new(alloc);
-    files.hold("t.e", WOKE.as_bytes())?;
+/// What is put where the third line is refused, and the log's end.
+fn third_refused(alloc: Global) -> Result<(String, bool), AllocError> {
+    let mut files = held(alloc, WOKE)?;
     let mut out = MemSink::new(alloc);
     out.fail_put(3)?;
-    let status = run(alloc, &words(alloc, "solve t.e l")?, &mut files, &mut out);
-    assert_eq!(rt; status, Status::OutFault);
-    assert_eq!(rt; out.bytes(), b"model 1:\n0\nHappens(WakeU".as_slice());
-    assert!(rt;
-        files
-            .bytes_of("l")
-            .unwrap_or(b"")
-            .ends_with(b"\nend complete: 2\n")
-    );
+    let told = answer(alloc, "solve t.e l", &mut files, &mut out)?;
+    let log = files.bytes_of("l").unwrap_or(b"");
+    Ok((told, log.ends_with(b"\nend complete: 2\n")))
+}
+
+/// The third line's first half stands behind those before it, and the log is whole.
+#[test]
+fn third_put(rt: HostRuntime) -> Result<(), Fail> {
+    let (told, whole) = third_refused(rt.alloc())?;
+    assert_eq!(rt; told.as_str(), "OutFault model 1:\n0\nHappens(WakeU");
+    assert!(rt; whole);
     Ok(())
 }
 
-/// Where the files fail nothing is put, and the log holds what it held, or a part of what was due.
+/// A call on the files.
+enum Call {
+    Piece,
+    Start,
+    Append,
+}
+
+/// The call that fails, its number, and what the search comes to and the log holds then: what it held, or a part of
+/// what was due.
+const FAILING: &[(Call, u32, &str)] = &[
+    (Call::Piece, 1, "FilesFault , before"),
+    (Call::Start, 1, "FilesFault , before"),
+    (Call::Append, 1, "FilesFault , log 1"),
+];
+
+fn fail(files: &mut MemFiles, call: &Call, number: u32) -> Result<(), AllocError> {
+    let number = u64::from(number);
+    match call {
+        Call::Piece => files.fail_piece(number),
+        Call::Start => files.fail_start(number),
+        Call::Append => files.fail_append(number),
+    }
+}
+
+fn failed(alloc: Global, call: &Call, number: u32) -> Result<String, AllocError> {
+    let mut files = held(alloc, WOKE)?;
+    files.hold("l", b"before")?;
+    fail(&mut files, call, number)?;
+    let mut out = MemSink::new(alloc);
+    let told = answer(alloc, "solve t.e l", &mut files, &mut out)?;
+    let log = bytes_told(alloc, &files, "l")?;
+    format!(in alloc; "{told}, {log}")
+}
+
+fn differing_failures(alloc: Global) -> Result<String, AllocError> {
+    let mut out = String::new(alloc);
+    for (call, number, want) in FAILING {
+        let got = failed(alloc, call, *number)?;
+        push_difference(&mut out, "a call", want, &got)?;
+    }
+    Ok(out)
+}
+
+/// Where the files fail nothing is put.
 #[test]
 fn files_fail(rt: HostRuntime) -> Result<(), Fail> {
-    let alloc = rt.alloc();
-    let line = words(alloc, "solve t.e l")?;
-    for failing in 0..3u64 {
-        let mut files = MemFiles::new(alloc);
-        files.hold("t.e", WOKE.as_bytes())?;
-        files.hold("l", b"before")?;
-        match failing {
-            0 => files.fail_piece(1)?,
-            1 => files.fail_start(1)?,
-            _ => files.fail_append(2)?,
-        }
-        let mut out = MemSink::new(alloc);
-        let status = run(alloc, &line, &mut files, &mut out);
-        assert_eq!(rt; status, Status::FilesFault, "at {failing}");
-        assert_eq!(rt; out.bytes(), b"".as_slice(), "at {failing}");
-        let log = files.bytes_of("l").unwrap_or(b"");
-        if failing < 2 {
-            assert_eq!(rt; log, b"before".as_slice(), "at {failing}");
-        } else {
-            assert!(rt; log.starts_with(b"log 1 6 9\n"));
-        }
-    }
+    assert_eq!(rt; differing_failures(rt.alloc())?.as_str(), "");
     Ok(())
+}
+
+/// What a search comes to, and what the files hold that it doesn't write.
+fn kept(alloc: Global) -> Result<String, AllocError> {
+    let mut files = held(alloc, WOKE)?;
+    files.hold("other", b"stays")?;
+    let mut out = MemSink::new(alloc);
+    let told = answer(alloc, "solve t.e l", &mut files, &mut out)?;
+    let root = bytes_told(alloc, &files, "t.e")?;
+    let other = bytes_told(alloc, &files, "other")?;
+    format!(in alloc; "{told}{root}{other}")
 }
 
 /// With no fault the list of the same file is put, and the other files stay.
 #[test]
 fn no_fault(rt: HostRuntime) -> Result<(), Fail> {
     let alloc = rt.alloc();
-    let mut files = MemFiles::new(alloc);
-    files.hold("t.e", WOKE.as_bytes())?;
-    files.hold("other", b"stays")?;
-    let mut out = MemSink::new(alloc);
-    let status = run(alloc, &words(alloc, "solve t.e l")?, &mut files, &mut out);
-    assert_eq!(rt; status, Status::Complete);
-    assert_eq!(rt; out.bytes(), WOKE_LIST.as_bytes());
-    assert_eq!(rt; files.bytes_of("t.e"), Some(WOKE.as_bytes()));
-    assert_eq!(rt; files.bytes_of("other"), Some(b"stays".as_slice()));
+    let list = told(alloc, Status::Complete, WOKE_LIST.as_bytes())?;
+    let want = format!(in alloc; "{list}{WOKE}stays")?;
+    assert_eq!(rt; kept(alloc)?.as_str(), want.as_str());
     Ok(())
 }

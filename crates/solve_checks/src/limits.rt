@@ -1,7 +1,10 @@
 //! Searches that end at a bound.
-use crate::solved::solved;
+use crate::solved::{logged, solved};
 use crate::texts::{CONTRADICTION, TOSS};
+use checks::answers::told;
+use differences::push_difference;
 use ec_command::Status;
+use std::alloc::{AllocError, Global};
 use std::test::Fail;
 
 /// Both ways that the coin may lie.
@@ -44,40 +47,40 @@ const LIMITS: &[(&str, &str, &str, Status)] = &[
     ),
 ];
 
+/// The lines with another answer than the one that is wanted.
+fn differing_limits(alloc: Global) -> Result<String, AllocError> {
+    let mut out = String::new(alloc);
+    for (line, text, want, status) in LIMITS {
+        let got = solved(alloc, line, text)?;
+        let want = told(alloc, *status, want.as_bytes())?;
+        push_difference(&mut out, line, &want, &got)?;
+    }
+    Ok(out)
+}
+
 #[test]
 fn limits(rt: HostRuntime) -> Result<(), Fail> {
-    let alloc = rt.alloc();
-    for &(line, text, want, wanted) in LIMITS {
-        let (_, out, status) = solved(alloc, line, text)?;
-        assert_eq!(rt; status, wanted, "at {line}");
-        assert_eq!(rt; out.bytes(), want.as_bytes(), "at {line}");
-    }
+    assert_eq!(rt; differing_limits(rt.alloc())?.as_str(), "");
     Ok(())
 }
 
 /// With one truth asked for, one of the two stands.
 #[test]
 fn one_model(rt: HostRuntime) -> Result<(), Fail> {
-    let alloc = rt.alloc();
-    let (_, out, status) = solved(alloc, "solve t.e l --models 1", TOSS)?;
-    assert_eq!(rt; status, Status::Limit);
-    let text = out.bytes();
-    assert!(rt; text.starts_with(b"model 1:\n0\nHappens(Toss(), 0).\n1\n"));
-    assert!(rt; text.ends_with(b"ReleasedAt(Up(), 1).\nP\nlimit: models 1\n"));
+    let told = solved(rt.alloc(), "solve t.e l --models 1", TOSS)?;
+    let told = told.as_str();
+    assert!(rt; told.starts_with("Limit model 1:\n0\nHappens(Toss(), 0).\n1\n"));
+    assert!(rt; told.ends_with("ReleasedAt(Up(), 1).\nP\nlimit: models 1\n"));
     Ok(())
 }
 
 /// The log of a search that ended at one conflict has one derived line.
 #[test]
 fn one_derived_line(rt: HostRuntime) -> Result<(), Fail> {
-    let alloc = rt.alloc();
-    let (files, _, _) = solved(alloc, "solve t.e l --conflicts 1", CONTRADICTION)?;
-    let log = files.bytes_of("l").unwrap_or(b"");
-    let derived = log
-        .split(|byte| *byte == b'\n')
-        .filter(|line| line.starts_with(b"d"))
-        .count();
+    let log = logged(rt.alloc(), "solve t.e l --conflicts 1", CONTRADICTION)?;
+    let log = log.as_str();
+    let derived = log.lines().filter(|line| line.starts_with("d")).count();
     assert_eq!(rt; derived, 1);
-    assert!(rt; log.ends_with(b"end limit: conflicts 1\n"));
+    assert!(rt; log.ends_with("end limit: conflicts 1\n"));
     Ok(())
 }

@@ -1,5 +1,5 @@
 //! Lists that a search gives, worked out by hand.
-use crate::solved::solved;
+use crate::solved::differing;
 use crate::texts::{CONTRADICTION, TOSS, WOKE, WOKE_LIST};
 use ec_command::Status;
 use std::test::Fail;
@@ -163,24 +163,9 @@ const LISTS: &[(&str, &str)] = &[
          range time 0 1",
         "model 1:\n0\nHappens(A(), 0).\nHappens(B(), 0).\n1\n+G().\nP\ncomplete: 1\n",
     ),
-];
-
-#[test]
-fn lists(rt: HostRuntime) -> Result<(), Fail> {
-    let alloc = rt.alloc();
-    for &(text, want) in LISTS {
-        let (_, out, status) = solved(alloc, "solve t.e l", text)?;
-        assert_eq!(rt; status, Status::Complete, "at {text}");
-        assert_eq!(rt; out.bytes(), want.as_bytes(), "at {text}");
-    }
-    Ok(())
-}
-
-/// A planning file: Nathan walks from the bedroom to the kitchen.
-#[test]
-fn plan(rt: HostRuntime) -> Result<(), Fail> {
-    let alloc = rt.alloc();
-    let text = "load foundations/Root.e\n\
+    // A plan: Nathan walks from the bedroom to the kitchen.
+    (
+        "load foundations/Root.e\n\
         load foundations/EC.e\n\
         option modeldiff on\n\
         sort agent\n\
@@ -197,8 +182,8 @@ fn plan(rt: HostRuntime) -> Result<(), Fail> {
         HoldsAt(InRoom(Nathan,Kitchen),1).\n\
         !Happens(event,1).\n\
         range time 0 1\n\
-        range offset 1 1";
-    let want = "model 1:\n\
+        range offset 1 1",
+        "model 1:\n\
         0\n\
         InRoom(Nathan, Bedroom).\n\
         Happens(Walk(Nathan, Kitchen), 0).\n\
@@ -206,9 +191,16 @@ fn plan(rt: HostRuntime) -> Result<(), Fail> {
         -InRoom(Nathan, Bedroom).\n\
         +InRoom(Nathan, Kitchen).\n\
         P\n\
-        complete: 1\n";
-    let (_, out, status) = solved(alloc, "solve t.e l", text)?;
-    assert_eq!(rt; status, Status::Complete);
-    assert_eq!(rt; out.bytes(), want.as_bytes());
+        complete: 1\n",
+    ),
+];
+
+#[test]
+fn lists(rt: HostRuntime) -> Result<(), Fail> {
+    let alloc = rt.alloc();
+    assert_eq!(rt;
+        differing(alloc, "solve t.e l", Status::Complete, LISTS)?.as_str(),
+        ""
+    );
     Ok(())
 }
