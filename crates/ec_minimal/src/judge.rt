@@ -9,6 +9,7 @@ ghost use Rattle.ec_logic.specs.TreeList.{formulas_of};
 ghost use Rattle.ec_logic.specs.Valid.{IsSignature};
 ghost use Rattle.ec_logic.specs.ValidTheory.{IsValidTheory, binder_limit};
 ghost use Rattle.ec_theory.specs.Theories.{theory_of};
+ghost use Rattle.ec_minimal.specs.Firsts.{TellsUntrue};
 ghost use Rattle.ec_minimal.specs.Judges.{IsJudgeOf};
 ghost use Rattle.ec_minimal.specs.Verdicts.{IsVerdict};
 
@@ -82,6 +83,29 @@ impl Judge {
         ensures verdict { IfOk result (IsVerdict (theory_of theory.now) (structure_of (universe_of theory.now.signature) structure.now)) }
         ensures minimal { IfOk result (λ v. (v ≡ Verdict.Minimal) ↔ IsMinimalModel (theory_of theory.now) (structure_of (universe_of theory.now.signature) structure.now)) }
     {
+        if let Some(part) = self.first_untrue(theory, atoms, structure) {
+            return Ok(Verdict::Untrue(part));
+        }
+        let signature = &theory.signature;
+        match first_unminimal_group(alloc, signature, atoms, structure, &theory.groups)? {
+            Some(place) => Ok(Verdict::Untrue(Part::Group(place))),
+            None => Ok(Verdict::Minimal),
+        }
+    }
+
+    /// The first untrue part of all that stands before the groups.
+    fn first_untrue(
+        &mut self,
+        theory: &Theory,
+        atoms: &Atoms,
+        structure: &Structure,
+    ) -> Option<Part>
+        requires judge { IsJudgeOf theory.now.signature self.old }
+        requires of { atoms.now ≡ theory.now.signature }
+        requires valid { IsValidTheory (theory_of theory.now) }
+        ensures judge { IsJudgeOf theory.now.signature self.new }
+        ensures part { TellsUntrue (theory_of theory.now) (structure_of (universe_of theory.now.signature) structure.now) result }
+    {
         let signature = &theory.signature;
         let scratch = &mut self.scratch;
         if let Some(place) = first_false_sentence(
@@ -91,10 +115,10 @@ impl Judge {
             &theory.remaining,
             scratch,
         ) {
-            return Ok(Verdict::Untrue(Part::Remaining(place)));
+            return Some(Part::Remaining(place));
         }
         if let Some(place) = first_false_formula(signature, atoms, structure, &self.dec, scratch) {
-            return Ok(Verdict::Untrue(Part::Axiom(place)));
+            return Some(Part::Axiom(place));
         }
         if let Some(place) = first_false_formula(
             signature,
@@ -103,12 +127,9 @@ impl Judge {
             &self.release,
             scratch,
         ) {
-            return Ok(Verdict::Untrue(Part::Release(place)));
+            return Some(Part::Release(place));
         }
-        match first_unminimal_group(alloc, signature, atoms, structure, &theory.groups)? {
-            Some(place) => Ok(Verdict::Untrue(Part::Group(place))),
-            None => Ok(Verdict::Minimal),
-        }
+        None
     }
 }
 
