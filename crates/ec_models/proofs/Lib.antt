@@ -5,3 +5,4 @@ pub mod VisibleParts
 pub mod Leaves
 pub mod EarlyLaws
 pub mod Steps
+pub mod Passing

@@ -16,3 +16,6 @@ returns-clause-truths c = all_found (theory_of c.args.theory.now) c.in_ok-struct
 
 pub returns-clause-few : goal.returns-clause-few
 returns-clause-few c = few_found_in_all (theory_of c.args.theory.now) c.in_ok-structure.structure c.new-found.result.items c.visit.new.found.items c.requires.few c.new-found.ensures.items c.in_ok-visit.ensures.found
+
+pub visit-requires-clause-judge : goal.visit-requires-clause-judge
+visit-requires-clause-judge c = c.in_ok-judge.ensures

@@ -75,3 +75,14 @@ returns-clause-found t c =
     on_ok_map c.visit-2.result c.visit-2.ensures.found
     (at_branch (theory_of c.args.self.now.theory.now) c.args.atom visible c.args.structure.now c.set.new.self c.visit.new.structure c.set-2.new.self c.set.ensures c.set-2.ensures c.in_ok-visit.ensures.same
     c.args.found.now.items c.visit.new.found.items c.visit-2.new.found.items below within size c.in_ok-visit.ensures.found)
+
+-- ---- the judge is as it was
+
+pub keep-requires : goal.keep-requires
+keep-requires t c = record { judge = c.requires.judge; of = c.requires.of; valid = c.requires.valid; early = c.requires.early; all = c.requires.all }
+
+pub returns-then-atom-visible-clause-judge : goal.returns-then-atom-visible-clause-judge
+returns-then-atom-visible-clause-judge t c = c.keep.ensures.judge
+
+pub returns-clause-judge : goal.returns-clause-judge
+returns-clause-judge t c = c.visit-2.ensures.judge

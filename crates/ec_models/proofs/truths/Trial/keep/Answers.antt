@@ -35,3 +35,23 @@ returns-in-Untrue-clause-found c =
     let size = c.in_ok-least_effects.ensures.size ∙ c.requires.all in
     kept_other (theory_of c.args.self.now.theory.now) c.requires.valid c.args.structure.now c.least_effects.new.structure c.requires.all size c.in_ok-least_effects.ensures.filled c.args.found.now.items
     (λ minimal. let is = c.in_ok-verdict.ensures.minimal.1 minimal in let other = c.in-Untrue.is in cc)
+
+-- ---- the judge is as it was
+
+pub passes_early-requires : goal.passes_early-requires
+passes_early-requires c = record { judge = c.requires.judge; of = c.requires.of; valid = c.requires.valid; early = c.requires.early; all = c.requires.all }
+
+pub least_effects-requires : goal.least_effects-requires
+least_effects-requires c = record { of = c.requires.of; valid = c.requires.valid; all = c.requires.all }
+
+pub verdict-requires : goal.verdict-requires
+verdict-requires c = record { judge = c.passes_early.ensures.judge; of = c.requires.of; valid = c.requires.valid; all = c.in_ok-least_effects.ensures.size ∙ c.requires.all }
+
+pub returns-then-not-passes_early-clause-judge : goal.returns-then-not-passes_early-clause-judge
+returns-then-not-passes_early-clause-judge c = c.passes_early.ensures.judge
+
+pub returns-in_ok-push-in-Minimal-clause-judge : goal.returns-in_ok-push-in-Minimal-clause-judge
+returns-in_ok-push-in-Minimal-clause-judge c = c.verdict.ensures.judge
+
+pub returns-in-Untrue-clause-judge : goal.returns-in-Untrue-clause-judge
+returns-in-Untrue-clause-judge c = c.verdict.ensures.judge
