@@ -28,3 +28,7 @@ module _ {X Y : Type 0} (view : X → Y) where
 pub pairs_of_rest : {X : Type 0} (R : X → X → Type 0) (xs : List X) → AllPairs R xs → AllPairs R (drop 1 xs)
 pairs_of_rest R [] h i j d l below = h i j d l below
 pairs_of_rest R (x ∷ xs) h i j d l below = h (suc i) (suc j) d (omega (arith, l)) (omega (arith, below))
+
+pub pairs_of_first : {X : Type 0} (R : X → X → Type 0) (xs : List X) → AllPairs R (take 1 xs)
+pairs_of_first R [] i j d l below = absurd (omega (arith, l, below))
+pairs_of_first R (x ∷ xs) i j d l below = absurd (omega (arith, l, below))

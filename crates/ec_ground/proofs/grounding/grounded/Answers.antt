@@ -6,7 +6,7 @@ use Rattle.ec_logic.specs.Axiom.{dec_axioms, release_axioms}
 use Rattle.ec_logic.specs.Signature.{Signature}
 use Rattle.ec_logic.specs.Theory as logic
 use Rattle.ec_logic.specs.Universe.{universe_of}
-use Rattle.ec_logic.specs.ValidTheory.{IsValidGroup, AreDisjoint}
+use Rattle.ec_logic.specs.ValidTheory.{IsValidGroup, AreDisjoint, AreValidSentences}
 use Rattle.ec_theory.specs.declared.theory.Sentence.{Sentence}
 use Rattle.ec_theory.specs.Theories as theories
 use Rattle.ec_theory.specs.Theories.{group_of, theory_of}
@@ -17,7 +17,7 @@ use Rattle.ec_ground.specs.Constants.{constants_of}
 use Rattle.ec_ground.specs.Listed.{listed_variables, listed_definitions}
 use Rattle.ec_ground.proofs.Gathered.{first_group, other_groups, of_first, of_others}
 use Rattle.ec_ground.proofs.Lists.{variables_listed, sentences_folded, definitions_listed, constants_count}
-use Rattle.ec_ground.proofs.Parts.{pairs_of_rest}
+use Rattle.ec_ground.proofs.Parts.{pairs_of_first, pairs_of_rest}
 use Rattle.ec_ground.proofs.grounding.grounded.Goals as goal
 
 -- ---- the groups
@@ -28,6 +28,12 @@ scopes-requires-clause-valid c =
     let groups = c.args.theory.now.groups.items in
     let P : List logic.Group → Type 0 = All (IsValidGroup signature) in
     subst P (sym (first_group c.deref.result.now groups c.deref.ensures.value)) (All-take (IsValidGroup signature) 1 (map group_of groups) c.requires.valid.groups)
+
+pub scopes-requires-clause-disjoint : goal.scopes-requires-clause-disjoint
+scopes-requires-clause-disjoint c =
+    let groups = c.args.theory.now.groups.items in
+    let P : List logic.Group → Type 0 = AllPairs AreDisjoint in
+    subst P (sym (first_group c.deref.result.now groups c.deref.ensures.value)) (pairs_of_first AreDisjoint (map group_of groups))
 
 pub scopes-requires-2-clause-valid : goal.scopes-requires-2-clause-valid
 scopes-requires-2-clause-valid c =
@@ -41,6 +47,13 @@ scopes-requires-2-clause-disjoint c =
     let groups = c.args.theory.now.groups.items in
     let P : List logic.Group → Type 0 = AllPairs AreDisjoint in
     subst P (sym (other_groups c.deref-4.result.now groups c.deref-4.ensures.value)) (pairs_of_rest AreDisjoint (map group_of groups) c.requires.valid.disjoint)
+
+-- ---- the sentences
+
+pub asserted_trees-requires-clause-sentences : goal.asserted_trees-requires-clause-sentences
+asserted_trees-requires-clause-sentences c =
+    let P : List Sentence → Type 0 = λ ss. AreValidSentences c.args.theory.now.signature (theories.sentence_trees ss) in
+    subst P (sym c.deref-5.ensures.value) c.requires.valid.remaining
 
 -- ---- the tables
 
