@@ -1,5 +1,5 @@
-use Rattle.std.proofs.Common.{◌≡◌, ◌∙◌, ◌+◌, ℕ, List, Vec, Global, None, ap, sym, arith}
-use Rattle.std.specs.List.{slice_index_or}
+use Rattle.std.proofs.Common.{◌≡◌, ◌∙◌, ◌+◌, ℕ, List, Vec, Global, None, length, ap, sym, arith}
+use Rattle.std.specs.List.{flat_map, range_with_len, slice_index_or}
 use Rattle.std.specs.Option.{option_or}
 use Rattle.std.proofs.lemmas.Grind.{drop_more_same}
 use Rattle.std.proofs.lemmas.List.{drop-set-lt, length-set, map-append}
@@ -55,3 +55,9 @@ loop-atom-preserved c =
       effects_count = length-set c.loop-atom.effects atom c.take.new.self ∙ before.effects_count;
       others_count = length-set c.loop-atom.others atom c.take-in-loop-atom.new.self ∙ before.others_count;
     }
+
+pub returns : goal.returns
+returns c =
+    let known = c.args.known.now in
+    let last : c.loop-atom.atom ≡ length known = omega (arith, c.loop-atom-test.false, c.loop-atom.auto.atom-end) in
+    c.loop-atom.invariant.listed ∙ ap (λ n. flat_map (λ k. definition_if (slice_index_or known k None) (scope_at c.args.effects.now c.args.others.now k) k) (range_with_len 0 n)) last

@@ -15,6 +15,12 @@ use Rattle.ec_fold.specs.Known.{read_with}
 use Rattle.ec_ground.proofs.Parts.{three_viewed}
 use Rattle.ec_ground.proofs.sentences.asserted_trees.Goals as goal
 
+pub add_sentences-requires-clause-room : goal.add_sentences-requires-clause-room
+add_sentences-requires-clause-room c = omega (arith, ap length c.deref_mut.ensures.value, c.in_ok-room.ensures.file)
+
+pub add_sentences-requires-clause-depth : goal.add_sentences-requires-clause-depth
+add_sentences-requires-clause-depth c = omega (arith, ap length c.deref_mut.ensures.value, c.in_ok-room.ensures.depth)
+
 pub add_formulas-requires-clause-sentences : goal.add_formulas-requires-clause-sentences
 add_formulas-requires-clause-sentences c =
     let P : List tree.Formula → Type 0 = All (IsSentence c.args.reader.signature.now) in
@@ -26,6 +32,11 @@ add_formulas-requires-2-clause-sentences c =
     subst P (sym (ap (map formula_tree) c.deref-2.ensures.value ∙ c.in_ok-release.ensures)) (release_sentences c.args.reader.signature.now c.requires.signature)
 
 -- the room is as long as it was
+pub add_formulas-requires-clause-depth : goal.add_formulas-requires-clause-depth
+add_formulas-requires-clause-depth c =
+    let count : length c.deref_mut-2.result.now ≡ length c.in_ok-room.room.items = c.deref_mut-2.ensures.len ∙ (sym c.deref_mut.ensures.len ∙ ap length c.deref_mut.ensures.value) in
+    omega (arith, count, c.in_ok-room.ensures.depth)
+
 pub add_formulas-requires-2-clause-room : goal.add_formulas-requires-2-clause-room
 add_formulas-requires-2-clause-room c =
     let count : length c.deref_mut-3.result.now ≡ length c.in_ok-room.room.items = c.deref_mut-3.ensures.len ∙ (sym c.deref_mut.ensures.len ∙ ap length c.deref_mut.ensures.value) in
