@@ -106,6 +106,12 @@ fn opens(marks: &[Mark<'_>]) -> bool
     matches!(mark, Mark::Sign(Sign::Open))
 }
 
+fn compare(op: Op, left: Arg, right: Arg) -> Tree
+    ensures { formula_of result ≡ written.compare op (term_of left) (term_of right) }
+{
+    Tree::Compare { op, left, right }
+}
+
 #[tactic(auto, using(crate::proofs::FormulaSteps::reading))]
 fn comparison<'s, 'a>(alloc: Global, marks: &'s [Mark<'a>]) -> Read<'s, 'a, Tree>
     ensures { Reads formula_of IsComparison free 1 (seen_all marks.now) result }
@@ -121,7 +127,7 @@ fn comparison<'s, 'a>(alloc: Global, marks: &'s [Mark<'a>]) -> Read<'s, 'a, Tree
     if goes_on(rest) {
         return Err(Fault::Syntax);
     }
-    Ok((tree::comparison(alloc, op, left, right)?, rest))
+    Ok((compare(op, left, right), rest))
 }
 
 fn predicate(name: &Word, args: Vec<Arg>) -> Result<Tree, AllocError>

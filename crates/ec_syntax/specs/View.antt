@@ -43,7 +43,7 @@ listed_formulas (t ∷ ts) = formula t (listed_formulas ts)
 -- one level of a formula, with each part already seen as its formula
 abbrev pub formula_step : Tree-F Formula → Formula
 formula_step (Tree-F.Atom n args) = w.atom n (terms_of args.items)
-formula_step (Tree-F.Compare op a b) = w.compare op (term_of a.value) (term_of b.value)
+formula_step (Tree-F.Compare op a b) = w.compare op (term_of a) (term_of b)
 formula_step (Tree-F.Not a) = w.not a.value
 formula_step (Tree-F.And ts) = w.and (listed_formulas ts.items)
 formula_step (Tree-F.Or ts) = w.or (listed_formulas ts.items)

@@ -35,28 +35,15 @@ pub enum Arg {
 /// `And` and `Or` have two parts or more. The names of a quantifier stand in the order written.
 #[derive(Debug, Drop)]
 pub enum Tree {
-    Atom {
-        name: Word,
-        args: Vec<Arg>,
-    },
-    Compare {
-        op: Op,
-        left: Box<Arg>,
-        right: Box<Arg>,
-    },
+    Atom { name: Word, args: Vec<Arg> },
+    Compare { op: Op, left: Arg, right: Arg },
     Not(Box<Tree>),
     And(Vec<Tree>),
     Or(Vec<Tree>),
     Implies(Box<Tree>, Box<Tree>),
     Iff(Box<Tree>, Box<Tree>),
-    ForAll {
-        names: Vec<Word>,
-        scope: Box<Tree>,
-    },
-    Exists {
-        names: Vec<Word>,
-        scope: Box<Tree>,
-    },
+    ForAll { names: Vec<Word>, scope: Box<Tree> },
+    Exists { names: Vec<Word>, scope: Box<Tree> },
 }
 
 /// Both terms, each in a box.
@@ -97,14 +84,6 @@ pub fn negative(alloc: Global, of: Arg) -> Result<Arg, AllocError>
     ensures { IfOk result (λ a. term_of a ≡ written.negative (term_of of)) }
 {
     Ok(Arg::Negative(Box::new(alloc, of)?))
-}
-
-/// A comparison of two terms.
-pub fn comparison(alloc: Global, op: Op, left: Arg, right: Arg) -> Result<Tree, AllocError>
-    ensures { IfOk result (λ t. formula_of t ≡ written.compare op (term_of left) (term_of right)) }
-{
-    let (left, right) = boxed_terms(alloc, left, right)?;
-    Ok(Tree::Compare { op, left, right })
 }
 
 /// A formula with `!` before it.

@@ -27,7 +27,7 @@ returns-then-goes_on c = λ a r d l.
 
 pub returns : goal.returns
 returns c = (
-  rw c.in_ok-comparison.ensures (comparison (sym c.if-opens.ensures) c.in_ok-left.ensures.0 c.in-Some.ensures.0 (rw c.in-Some.ensures.1 at c.in_ok-right.ensures.0) (sym c.if-goes_on.ensures)),
+  rw c.compare.ensures (comparison (sym c.if-opens.ensures) c.in_ok-left.ensures.0 c.in-Some.ensures.0 (rw c.in-Some.ensures.1 at c.in_ok-right.ensures.0) (sym c.if-goes_on.ensures)),
   omega arith,
   omega (arith, c.in_ok-left.ensures.2, c.in_ok-right.ensures.2, ap length c.in-Some.ensures.1, steps.behind_le (seen_all c.in_ok-left.rest.now)),
 )
