@@ -48,7 +48,10 @@ pub(crate) fn weight(signature: &Signature, f: &Formula) -> u64
             let sides = sum(weight(signature, g), weight(signature, h));
             over_values(2, sides)
         }
-        Formula::ForAll { sort, scope } | Formula::Exists { sort, scope } => {
+        Formula::ForAll { sort, scope } => {
+            over_values(size(signature, *sort), weight(signature, scope))
+        }
+        Formula::Exists { sort, scope } => {
             over_values(size(signature, *sort), weight(signature, scope))
         }
     }
