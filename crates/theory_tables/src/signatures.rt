@@ -118,45 +118,25 @@ fn sizes_stop(rt: HostRuntime) -> Result<(), Fail> {
     Ok(())
 }
 
-/// Constants with their names, and whether they are agents, children and booleans.
-const CONSTANTS: &[(u32, &str)] = &[
-    (0, "James true false false"),
-    (1, "Nell true true false"),
-    (2, "Ada true false false"),
-    (3, "no constant"),
+/// Constants and their names, and whether they are agents, children and booleans.
+const CONSTANTS: &[(u32, &str, bool, bool, bool)] = &[
+    (0, "James", true, false, false),
+    (1, "Nell", true, true, false),
+    (2, "Ada", true, false, false),
 ];
-
-fn constant_text(
-    alloc: Global,
-    signature: &Signature,
-    constant: u32,
-) -> Result<String, AllocError> {
-    if constant >= signature.constants() || signature.sorts() < 8 {
-        return String::from_str(alloc, "no constant");
-    }
-    let name = signature.constant_name(constant).text();
-    let agent = signature.constant_in(constant, 6);
-    let child = signature.constant_in(constant, 7);
-    let boolean = signature.constant_in(constant, 0);
-    format!(in alloc; "{name} {agent} {child} {boolean}")
-}
-
-/// The constants with another text than the one that is wanted, and that text.
-fn differing_constants(alloc: Global, signature: &Signature) -> Result<String, AllocError> {
-    let mut out = String::new(alloc);
-    for (constant, want) in CONSTANTS {
-        let got = constant_text(alloc, signature, *constant)?;
-        let row = format!(in alloc; "constant {constant}")?;
-        push_difference(&mut out, &row, want, &got)?;
-    }
-    Ok(out)
-}
 
 #[test]
 fn constants(rt: HostRuntime) -> Result<(), Fail> {
     let alloc = rt.alloc();
     let signature = small_signature(alloc, false)?;
-    assert_eq!(rt; differing_constants(alloc, &signature)?.as_str(), "");
+    assert_eq!(rt; signature.constants(), 3);
+    for &(constant, name, agent, child, boolean) in CONSTANTS {
+        assert!(rt; constant < signature.constants());
+        assert_eq!(rt; signature.constant_name(constant).text(), name);
+        assert_eq!(rt; signature.constant_in(constant, 6), agent, "{name}");
+        assert_eq!(rt; signature.constant_in(constant, 7), child, "{name}");
+        assert_eq!(rt; signature.constant_in(constant, 0), boolean, "{name}");
+    }
     Ok(())
 }
 
