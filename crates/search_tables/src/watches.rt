@@ -3,8 +3,8 @@
 ghost use Rattle.std.specs.Prelude.{◌≡◌};
 ghost use Rattle.ec_unit.specs.Watching.{Watches};
 
-use crate::literals::{add, list_of, literal};
-use ec_clause::clauses::Clauses;
+use crate::literals::{list_of, literal};
+use ec_clause::clauses::{Clauses, is_clause};
 use ec_clause::lit::Lit;
 use ec_trail::trail::Trail;
 use ec_unit::watch::{Settled, Watch};
@@ -19,7 +19,9 @@ fn add_watched(rt: &impl Abort, clauses: &mut Clauses, watch: &mut Watch, lits: 
     ensures watched { Watches clauses.new watch.new }
     ensures variables { clauses.new.variables ≡ clauses.old.variables }
 {
-    let number = add(rt, clauses, lits);
+    assert!(rt; is_clause(clauses.variables(), lits));
+    assert!(rt; clauses.len() < u32::MAX);
+    let number = clauses.push(lits).expect(rt, "memory");
     watch.add(clauses, number).expect(rt, "memory");
 }
 
