@@ -77,6 +77,24 @@ fn files_fail(rt: HostRuntime) -> Result<(), Fail> {
     Ok(())
 }
 
+/// What a search comes to where the second line of the log can't be written, and the log.
+fn cut_short(alloc: Global) -> Result<(String, String), AllocError> {
+    let mut files = held(alloc, WOKE)?;
+    files.fail_append(2)?;
+    let mut out = MemSink::new(alloc);
+    let told = answer(alloc, "solve t.e l", &mut files, &mut out)?;
+    Ok((told, bytes_told(alloc, &files, "l")?))
+}
+
+/// The first line stands.
+#[test]
+fn second_line(rt: HostRuntime) -> Result<(), Fail> {
+    let (told, log) = cut_short(rt.alloc())?;
+    assert_eq!(rt; told.as_str(), "FilesFault ");
+    assert!(rt; log.as_str().starts_with("log 1 6 9\n"));
+    Ok(())
+}
+
 /// What a search comes to, and what the files hold that it doesn't write.
 fn kept(alloc: Global) -> Result<String, AllocError> {
     let mut files = held(alloc, WOKE)?;
