@@ -5,11 +5,12 @@ use Rattle.ec_parse.specs.declared.mark.Sign.TheVariants as s
 use Rattle.ec_parse.specs.declared.mark.Keyword.TheVariants as k
 use Rattle.ec_parse.specs.declared.fault.Fault.{Fault}
 use Rattle.ec_parse.specs.declared.fault.Fault.TheVariants.{Memory, Syntax}
+use Rattle.std.specs.Prelude.{Result, Ok, Err}
 use Rattle.ec_syntax.specs.declared.statement.SortItem.{SortItem}
 use Rattle.ec_syntax.specs.Written.{Content, Shape}
 use Rattle.ec_parse.specs.Mark.{Mark, sign, Lacks}
 use Rattle.ec_parse.specs.Mark as m
-use Rattle.ec_parse.specs.Reads.{Fails, Unspelled, Ending, free, item_of}
+use Rattle.ec_parse.specs.Reads.{Fails, Unspelled, Whole, Ending, IsEnded, free, item_of}
 use Rattle.ec_parse.specs.Lists.{IsName, IsVariable, variable, AreParted, parted, commas}
 use Rattle.ec_parse.specs.Lines.{IsWhole, positive, negative, IsShape, bare, empty, full, colons, IsSortItem, orphan, child, lower_of, is_left_out, IsLine, sorts, reified, constants, events, fluents, predicates, noninertial, range, completion, labelled_completion, left_out, IsAlone, load, choice, ignored, is_choice, first_word, after_word}
 use Rattle.ec_parse.proofs.OneTerm.{Same}
@@ -136,6 +137,10 @@ pub ruleset lines = (positive, negative, bare, empty, full, orphan, child, no_ne
 module _ {X : Type 0} (R : List Mark → X → List Mark → Type 0) (one : (ms : List Mark) (a b : X) (r s : List Mark) → R ms a r → R ms b s → Same a b r s) where
   pub no_whole_list : {ms mid : List Mark} {a b : List X} → AreParted R ms a mid → commas mid < 1 → (mid ≡ [] → ⊥) → AreParted R ms b [] → ⊥
   no_whole_list u l n d = n (parted_one R one u l d (omega arith)).1
+
+  pub list_ended : {A : Type 0} (view : A → List X) (ms mid : List Mark) (found : A) (result : Result A Fault) → AreParted R ms (view found) mid → commas mid < 1 → IsEnded found mid result → Whole view (Ending (AreParted R)) ms result
+  list_ended view ms mid found (Ok a) u l h = rw h.0 (subst (λ z. AreParted R ms (view found) z) h.1 u)
+  list_ended view ms mid found (Err e) u l h = rw h.0 (λ x d. no_whole_list u l h.1 d)
 
 module _ {X : Type 0} (R : List Mark → X → List Mark → Type 0) where
   pub ending_fails : (ms : List Mark) (e : Fault) → Fails (AreParted R) commas 1 ms e → Unspelled (Ending (AreParted R)) ms e

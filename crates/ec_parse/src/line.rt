@@ -147,11 +147,7 @@ fn all_names(alloc: Global, marks: &[Mark<'_>]) -> Result<Vec<Word>, Fault>
     ensures { Whole words_of (Ending (AreParted IsName)) (seen_all marks.now) result }
 {
     let (found, rest) = names(alloc, marks)?;
-    if ends(rest) {
-        Ok(found)
-    } else {
-        Err(Fault::Syntax)
-    }
+    ended(found, rest)
 }
 
 /// Shapes, and nothing behind them.
@@ -159,11 +155,7 @@ fn all_shapes(alloc: Global, marks: &[Mark<'_>]) -> Result<Vec<Shape>, Fault>
     ensures { Whole shapes_of (Ending (AreParted IsShape)) (seen_all marks.now) result }
 {
     let (found, rest) = shapes(alloc, marks)?;
-    if ends(rest) {
-        Ok(found)
-    } else {
-        Err(Fault::Syntax)
-    }
+    ended(found, rest)
 }
 
 /// Sorts, and nothing behind them.
@@ -171,11 +163,7 @@ fn all_sort_items(alloc: Global, marks: &[Mark<'_>]) -> Result<Vec<SortItem>, Fa
     ensures { Whole items_of (Ending (AreParted IsSortItem)) (seen_all marks.now) result }
 {
     let (found, rest) = sort_items(alloc, marks)?;
-    if ends(rest) {
-        Ok(found)
-    } else {
-        Err(Fault::Syntax)
-    }
+    ended(found, rest)
 }
 
 /// Whether no mark is left.

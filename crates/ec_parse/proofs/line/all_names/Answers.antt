@@ -1,7 +1,8 @@
-use Rattle.std.proofs.Common.{refl}
 use Rattle.std.proofs.lemmas.Result.{err_from_is_err_and}
 use Rattle.ec_parse.specs.Lists.{IsName}
 use Rattle.ec_parse.proofs.Parted.{name_one}
+use Rattle.ec_parse.specs.Mark.{seen_all}
+use Rattle.ec_parse.specs.Reads.{words_of}
 use Rattle.ec_parse.proofs.LineSteps as steps
 use Rattle.ec_parse.proofs.line.all_names.Goals as goal
 
@@ -10,8 +11,7 @@ returns-in_err-found c =
     let p = err_from_is_err_and c.from_residual.result c.from_residual.ensures.1 in
     rw (p.1, p.2) (steps.ending_fails IsName _ _ c.in_err-found.ensures)
 
-pub returns-then-ends : goal.returns-then-ends
-returns-then-ends c = rw (c.if-ends.ensures.end refl) at c.in_ok-found.ensures.0
-
-pub returns-else-ends : goal.returns-else-ends
-returns-else-ends c = λ x d. steps.no_whole_list IsName name_one c.in_ok-found.ensures.0 c.in_ok-found.ensures.1 (c.if-ends.ensures.more refl) d
+pub returns : goal.returns
+returns c =
+    steps.list_ended IsName name_one words_of (seen_all c.args.marks.now) (seen_all c.in_ok-found.rest.now) c.in_ok-found.found c.ended.result
+    c.in_ok-found.ensures.0 c.in_ok-found.ensures.1 c.ended.ensures
