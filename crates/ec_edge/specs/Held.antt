@@ -8,6 +8,6 @@ use Rattle.ec_edge.specs.Memory.{FilesTally}
 abbrev pub held_in : MemFiles → List ℕ → Option (List ℕ)
 held_in m name = option_map (λ v. v.items) (get_by_text m.files name)
 
--- the calls so far, and the two counts
+-- the calls so far, and the three counts
 abbrev pub tally_of : MemFiles → FilesTally
-tally_of m = record { pieces = m.pieces; starts = m.starts; appends = m.appends; faults = m.faults; absences = m.absences }
+tally_of m = record { pieces = m.pieces; starts = m.starts; appends = m.appends; faults = m.faults; absences = m.absences; failed_starts = m.failed_starts }

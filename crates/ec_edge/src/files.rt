@@ -22,8 +22,8 @@ pub trait Files {
     /// How often a name was not held, up to 2^64 - 1.
     ghost absences: { Self → ℕ };
 
-    /// Whether the next call of `start` may fail, for an implementation that can tell.
-    ghost start_may_fail: { Self → Type 0 } = { λ _. Unit {0} };
+    /// How often `start` has failed, up to 2^64 - 1.
+    ghost failed_starts: { Self → ℕ };
 
     /// Copies bytes of a file, from an offset on, to the front of the buffer, and gives their
     /// number: 0 exactly at the end of the file or past it, or for an empty buffer. It may copy
@@ -39,7 +39,7 @@ pub trait Files {
         ensures failed { IsErrOf result FileFault.Failed → Rose (faults self.old) (faults self.new) }
 
         ensures stays { AllStay (held self.old) (held self.new) }
-        ensures starts { start_may_fail self.new → start_may_fail self.old }
+        ensures failed_starts { failed_starts self.new ≡ failed_starts self.old }
         ensures tells { tells self.new ≡ tells self.old }
         ensures faults { faults self.old ≤ faults self.new }
         ensures absences { absences self.old ≤ absences self.new };
@@ -49,8 +49,13 @@ pub trait Files {
         ensures ok { IsTrue (tells self.old) → OnOk result (held self.new name.now ≡ Some []) }
         ensures never_absent { IsErrOf result FileFault.Absent → ⊥ }
         ensures failed { IsErrOf result FileFault.Failed → Rose (faults self.old) (faults self.new) }
-        ensures may_fail { IsErrOf result FileFault.Failed → start_may_fail self.old }
         ensures memory { IsErrOf result FileFault.Memory → AllStay (held self.old) (held self.new) }
+
+        // A call that failed is told apart from all others by this count.
+        ensures counted { IsErrOf result FileFault.Failed → Rose (failed_starts self.old) (failed_starts self.new) }
+        ensures uncounted { OnOk result (failed_starts self.new ≡ failed_starts self.old) }
+        ensures uncounted_memory { IsErrOf result FileFault.Memory → failed_starts self.new ≡ failed_starts self.old }
+        ensures failed_starts { failed_starts self.old ≤ failed_starts self.new }
 
         ensures others { OthersStay name.now (held self.old) (held self.new) }
         ensures tells { tells self.new ≡ tells self.old }
@@ -69,6 +74,7 @@ pub trait Files {
         ensures memory { IsErrOf result FileFault.Memory → AllStay (held self.old) (held self.new) }
 
         ensures others { OthersStay name.now (held self.old) (held self.new) }
+        ensures failed_starts { failed_starts self.new ≡ failed_starts self.old }
         ensures tells { tells self.new ≡ tells self.old }
         ensures faults { faults self.old ≤ faults self.new }
         ensures absences { absences self.old ≤ absences self.new };

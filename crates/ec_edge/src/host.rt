@@ -12,7 +12,7 @@ use std::io::{ErrorKind, Read, Seek, SeekFrom, Write};
 use std::marker::Model;
 use std::rt::Files as SystemFiles;
 
-/// The files of the operating system, a name being a path, seen as their two counts.
+/// The files of the operating system, a name being a path, seen as their three counts.
 ///
 /// Each call opens the file anew, so nothing is kept open. A name that the system does not find
 /// is absent; a directory, a file that may not be read, and any other error are failures.
@@ -21,6 +21,7 @@ pub struct HostFiles<'a, R: SystemFiles> {
     rt: &'a R,
     faults: u64,
     absences: u64,
+    failed_starts: u64,
 }
 
 impl<'a, R: SystemFiles> Model for HostFiles<'a, R> {
@@ -28,18 +29,19 @@ impl<'a, R: SystemFiles> Model for HostFiles<'a, R> {
 
     ghost Value = { FileCounts };
 
-    ghost view = { λ f. record { faults = f.faults; absences = f.absences } };
+    ghost view = { λ f. record { faults = f.faults; absences = f.absences; failed_starts = f.failed_starts } };
 }
 
 impl<'a, R: SystemFiles> HostFiles<'a, R> {
-    /// The files that the runtime reaches, with both counts at 0.
+    /// The files that the runtime reaches, with all counts at 0.
     pub fn new(rt: &'a R) -> HostFiles<'a, R>
-        ensures { result ≡ record { faults = 0; absences = 0 } }
+        ensures { result ≡ record { faults = 0; absences = 0; failed_starts = 0 } }
     {
         HostFiles {
             rt,
             faults: 0,
             absences: 0,
+            failed_starts: 0,
         }
     }
 
@@ -50,6 +52,18 @@ impl<'a, R: SystemFiles> HostFiles<'a, R> {
     {
         self.faults = self.faults.saturating_add(1);
         FileFault::Failed
+    }
+
+    // A start that the system refused, which both counts tell.
+    fn failed_start(&mut self) -> FileFault
+        ensures fault { result ≡ FileFault.Failed }
+        ensures counts { let old = self.old in
+            self.new ≡ record old { faults = raised old.faults; failed_starts = raised old.failed_starts } }
+        ensures faults { self.old.faults ≤ self.new.faults }
+        ensures failed_starts { self.old.failed_starts ≤ self.new.failed_starts }
+    {
+        self.failed_starts = self.failed_starts.saturating_add(1);
+        self.failed()
     }
 
     fn absent(&mut self) -> FileFault
@@ -67,6 +81,7 @@ impl<'a, R: SystemFiles> HostFiles<'a, R> {
         ensures failed { result ≡ FileFault.Failed → Rose self.old.faults self.new.faults }
         ensures faults { self.old.faults ≤ self.new.faults }
         ensures absences { self.old.absences ≤ self.new.absences }
+        ensures failed_starts { self.new.failed_starts ≡ self.old.failed_starts }
     {
         if kind == ErrorKind::NotFound {
             self.absent()
@@ -98,6 +113,8 @@ impl<'a, R: SystemFiles> Files for HostFiles<'a, R> {
 
     ghost absences = { λ f. f.absences };
 
+    ghost failed_starts = { λ f. f.failed_starts };
+
     fn piece(&mut self, name: &str, at: u64, buf: &mut [u8]) -> Result<usize, FileFault> {
         match read_at(self.rt, name, at, buf) {
             Ok(n) => Ok(n),
@@ -108,7 +125,7 @@ impl<'a, R: SystemFiles> Files for HostFiles<'a, R> {
     fn start(&mut self, name: &str) -> Result<(), FileFault> {
         match File::create(self.rt, name) {
             Ok(_) => Ok(()),
-            Err(_) => Err(self.failed()),
+            Err(_) => Err(self.failed_start()),
         }
     }
 

@@ -2,7 +2,7 @@
 ghost use Rattle.std.specs.Prelude.{◌≡◌, ◌≢◌, ◌≤◌, ◌<◌, ◌^◌, ◌-◌, ◌↔◌, [], ℕ, List, Option, Some, None, length, true, IfOk, IsSomeAnd, IsErrOf, OnOk, OnErr};
 ghost use Rattle.std.specs.Option.{option_copied};
 ghost use Rattle.ec_edge.specs.Causes.{Rose};
-ghost use Rattle.ec_edge.specs.Memory.{first_half, no_tally, tallied};
+ghost use Rattle.ec_edge.specs.Memory.{first_half, no_tally, tallied, tallied_start};
 ghost use Rattle.ec_edge.specs.Pieces.{IsPiece, AllStay, OthersStay, appended, AppendsHeldPrefix};
 ghost use Rattle.ec_edge.specs.Plan.{after_call, failing_too, FailsNext};
 
@@ -22,6 +22,7 @@ pub struct MemFiles {
     appends: Calls,
     faults: u64,
     absences: u64,
+    failed_starts: u64,
 }
 
 impl MemFiles {
@@ -40,6 +41,7 @@ impl MemFiles {
             appends: Calls::new(alloc),
             faults: 0,
             absences: 0,
+            failed_starts: 0,
         }
     }
 
@@ -144,8 +146,7 @@ impl Files for MemFiles {
 
     ghost absences = { λ m. (tally_of m).absences };
 
-    // It may fail where it is set to.
-    ghost start_may_fail = { λ m. FailsNext (tally_of m).starts };
+    ghost failed_starts = { λ m. (tally_of m).failed_starts };
 
     /// It takes no memory, and gives all bytes that there are room for.
     fn piece(&mut self, name: &str, at: u64, buf: &mut [u8]) -> Result<usize, FileFault>
@@ -160,7 +161,6 @@ impl Files for MemFiles {
         ensures fails { IsErrOf result FileFault.Failed ↔ FailsNext (tally_of self.old).pieces }
         ensures tally { let old = tally_of self.old in
             tally_of self.new ≡ tallied (record old { pieces = after_call old.pieces }) result }
-        ensures starts { (tally_of self.new).starts ≡ (tally_of self.old).starts }
 
         ensures absent { IsErrOf result FileFault.Absent →
             Rose (tally_of self.old).absences (tally_of self.new).absences }
@@ -193,15 +193,19 @@ impl Files for MemFiles {
         ensures only_set { IsErrOf result FileFault.Failed → FailsNext (tally_of self.old).starts }
         ensures fails { OnOk result (¬ FailsNext (tally_of self.old).starts) }
         ensures tally { let old = tally_of self.old in
-            tally_of self.new ≡ tallied (record old { starts = after_call old.starts }) result }
+            tally_of self.new ≡ tallied_start (record old { starts = after_call old.starts }) result }
 
         ensures failed { IsErrOf result FileFault.Failed →
             Rose (tally_of self.old).faults (tally_of self.new).faults }
+        ensures counted { IsErrOf result FileFault.Failed →
+            Rose (tally_of self.old).failed_starts (tally_of self.new).failed_starts }
+        ensures failed_starts { (tally_of self.old).failed_starts ≤ (tally_of self.new).failed_starts }
         ensures faults { (tally_of self.old).faults ≤ (tally_of self.new).faults }
         ensures absences { (tally_of self.old).absences ≤ (tally_of self.new).absences }
     {
         if self.starts.next_fails() {
             self.faults = self.faults.saturating_add(1);
+            self.failed_starts = self.failed_starts.saturating_add(1);
             return Err(FileFault::Failed);
         }
         self.hold(name, &[])?;

@@ -38,7 +38,7 @@ pub fn read_whole<F: Files>(
     ensures failed { IsErrOf result FileFault.Failed → Rose (F.faults files.old) (F.faults files.new) }
 
     ensures stays { AllStay (F.held files.old) (F.held files.new) }
-    ensures starts { F.start_may_fail files.new → F.start_may_fail files.old }
+    ensures failed_starts { F.failed_starts files.new ≡ F.failed_starts files.old }
     ensures tells { F.tells files.new ≡ F.tells files.old }
     ensures faults { F.faults files.old ≤ F.faults files.new }
     ensures absences { F.absences files.old ≤ F.absences files.new }

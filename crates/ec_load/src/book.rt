@@ -47,7 +47,7 @@ fn add_file<F: Files>(
     ensures grows { OnOk result (length (gathered book.old).files < length (gathered book.new).files) }
     ensures few { OnOk result (IsWithin 0 (gathered book.old) (gathered book.new)) }
     ensures stays { AllStay (F.held files.old) (F.held files.new) }
-    ensures starts { F.start_may_fail files.new → F.start_may_fail files.old }
+    ensures failed_starts { F.failed_starts files.new ≡ F.failed_starts files.old }
     ensures tells { F.tells files.new ≡ F.tells files.old }
     ensures faults { F.faults files.old ≤ F.faults files.new }
     ensures absences { F.absences files.old ≤ F.absences files.new }
@@ -81,7 +81,7 @@ fn add_statement<F: Files>(
     ensures grows { OnOk result (length (gathered book.old).files ≤ length (gathered book.new).files) }
     ensures few { OnOk result (IsWithin (counted (statement_of statement ∷ [])) (gathered book.old) (gathered book.new)) }
     ensures stays { AllStay (F.held files.old) (F.held files.new) }
-    ensures starts { F.start_may_fail files.new → F.start_may_fail files.old }
+    ensures failed_starts { F.failed_starts files.new ≡ F.failed_starts files.old }
     ensures tells { F.tells files.new ≡ F.tells files.old }
     ensures faults { F.faults files.old ≤ F.faults files.new }
     ensures absences { F.absences files.old ≤ F.absences files.new }
@@ -120,7 +120,7 @@ fn add_statements<F: Files>(
     ensures grows { OnOk result (length (gathered book.old).files ≤ length (gathered book.new).files) }
     ensures few { OnOk result (IsWithin (counted (statements_of statements)) (gathered book.old) (gathered book.new)) }
     ensures stays { AllStay (F.held files.old) (F.held files.new) }
-    ensures starts { F.start_may_fail files.new → F.start_may_fail files.old }
+    ensures failed_starts { F.failed_starts files.new ≡ F.failed_starts files.old }
     ensures tells { F.tells files.new ≡ F.tells files.old }
     ensures faults { F.faults files.old ≤ F.faults files.new }
     ensures absences { F.absences files.old ≤ F.absences files.new }
@@ -143,7 +143,7 @@ pub fn load<F: Files>(alloc: Global, files: &mut F, root: &str) -> Result<Book, 
     ensures absent { (r : Refusal) → result ≡ Err (LoadFault.Refused r) → r.code ≡ 1 →
         Rose (F.absences files.old) (F.absences files.new) }
     ensures stays { AllStay (F.held files.old) (F.held files.new) }
-    ensures starts { F.start_may_fail files.new → F.start_may_fail files.old }
+    ensures failed_starts { F.failed_starts files.new ≡ F.failed_starts files.old }
     ensures tells { F.tells files.new ≡ F.tells files.old }
     ensures faults { F.faults files.old ≤ F.faults files.new }
     ensures absences { F.absences files.old ≤ F.absences files.new }

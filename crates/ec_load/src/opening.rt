@@ -76,7 +76,7 @@ pub(crate) fn opened<F: Files>(
     ensures few { IfOk result (λ found. counted (statements_of found) ≤ 2 ^ 20) }
     ensures cause { FailsByCause (F.faults files.old) (F.faults files.new) (F.absences files.old) (F.absences files.new) result }
     ensures stays { AllStay (F.held files.old) (F.held files.new) }
-    ensures starts { F.start_may_fail files.new → F.start_may_fail files.old }
+    ensures failed_starts { F.failed_starts files.new ≡ F.failed_starts files.old }
     ensures tells { F.tells files.new ≡ F.tells files.old }
     ensures faults { F.faults files.old ≤ F.faults files.new }
     ensures absences { F.absences files.old ≤ F.absences files.new }

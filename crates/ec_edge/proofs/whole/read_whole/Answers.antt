@@ -24,7 +24,7 @@ loop-buf-preserved g c =
           );
       end = omega arith;
       stays = λ other. search rules;
-      starts = λ may. c.loop-buf.invariant.starts (c.in_ok-n.ensures.starts may);
+      failed_starts = search rules;
       tells = search rules;
       faults = omega (arith, c.in_ok-n.ensures.faults);
       absences = omega (arith, c.in_ok-n.ensures.absences);

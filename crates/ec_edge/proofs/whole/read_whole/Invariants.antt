@@ -10,7 +10,7 @@ invariant-loop-buf g l = record {
   within : vec_len l.bytes ≤ l.end;
   end : l.end ≡ l.limit + 1;
   stays : AllStay (g.F.Files.held l.fn.files) (g.F.Files.held l.files);
-  starts : g.F.Files.start_may_fail l.files → g.F.Files.start_may_fail l.fn.files;
+  failed_starts : g.F.Files.failed_starts l.files ≡ g.F.Files.failed_starts l.fn.files;
   tells : g.F.Files.tells l.files ≡ g.F.Files.tells l.fn.files;
   faults : g.F.Files.faults l.fn.files ≤ g.F.Files.faults l.files;
   absences : g.F.Files.absences l.fn.files ≤ g.F.Files.absences l.files;

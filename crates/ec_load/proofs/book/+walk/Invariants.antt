@@ -29,7 +29,7 @@ invariant-add_statements-loop-statement g l = record {
   few : counted_placed (gathered l.book).statements + counted (map statement_of (into_iter_items l.statement-iterator)) + 1048576 * length (gathered l.fn.book).files
       ≤ counted_placed (gathered l.fn.book).statements + counted (statements_of l.fn.statements) + 1048576 * length (gathered l.book).files;
   stays : AllStay (g.F.Files.held l.fn.files) (g.F.Files.held l.files);
-  starts : g.F.Files.start_may_fail l.files → g.F.Files.start_may_fail l.fn.files;
+  failed_starts : g.F.Files.failed_starts l.files ≡ g.F.Files.failed_starts l.fn.files;
   tells : g.F.Files.tells l.files ≡ g.F.Files.tells l.fn.files;
   faults : g.F.Files.faults l.fn.files ≤ g.F.Files.faults l.files;
   absences : g.F.Files.absences l.fn.files ≤ g.F.Files.absences l.files;
