@@ -6,3 +6,6 @@ pub mod LinesApart
 pub mod ReadOnly
 pub mod Parts
 pub mod WrittenLines
+pub mod Unending
+pub mod Collected
+pub mod Fitting

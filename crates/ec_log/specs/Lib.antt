@@ -4,3 +4,5 @@ pub mod Line
 pub mod Reading
 pub mod Log
 pub mod Kept
+pub mod Reader
+pub mod Collecting

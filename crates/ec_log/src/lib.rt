@@ -5,6 +5,8 @@
 //! spelling of each line is a definition, `spelled`, and what a line may hold is another, `IsLine`.
 //! `read_line` answers the one line that the bytes spell, and Form exactly where they spell none.
 //! `Writer` keeps the notes of a search and then makes a file hold exactly the lines of its log.
+//! `LogReader` reads a file in pieces of a given size and answers its lines one by one, the same
+//! for every size and however the files cut their pieces; it holds one line in memory and no more.
 //! `push_ending` and `read_ending` are the words of an ending alone, as the last line of a list has
 //! them.
 //!
@@ -15,12 +17,16 @@ mod append;
 mod endings;
 mod kept;
 mod line;
+mod next_line;
 mod numbers;
 mod read;
+mod reader;
 mod spell;
 mod writer;
 
 pub use endings::{push_ending, read_ending};
 pub use line::{Line, LineFault};
+pub use next_line::NextLine;
 pub use read::read_line;
+pub use reader::LogReader;
 pub use writer::{WriteFault, Writer};

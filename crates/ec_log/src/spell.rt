@@ -1,9 +1,10 @@
 //! The lines of a log, spelled with the byte 10 that ends each.
-ghost use Rattle.std.specs.Prelude.{◌≡◌, ◌++◌, ◌+◌, ◌≤◌, ◌<◌, false, IfOk, OnOk, slice_index_or};
+ghost use Rattle.std.specs.Prelude.{◌≡◌, ◌++◌, ◌+◌, ◌^◌, ◌≤◌, ◌<◌, All, false, IfOk, OnOk, slice_index_or};
 ghost use Rattle.std.specs.List.{flat_map};
+ghost use Rattle.ec_clause.specs.Ending.{number_of};
 ghost use Rattle.ec_log.specs.Digits.{bit, digit_of, digits_of};
-ghost use Rattle.ec_log.specs.Kept.{entry_line};
-ghost use Rattle.ec_log.specs.Line.{Header, Derived, Blocked, End, literal_word, number_word};
+ghost use Rattle.ec_log.specs.Kept.{entry_line, EntryHasRange};
+ghost use Rattle.ec_log.specs.Line.{Header, Derived, Blocked, End, IsLit, literal_word, number_word};
 ghost use Rattle.ec_log.specs.Log.{forbidden, line_text};
 
 use crate::endings::push_ending;
@@ -15,7 +16,8 @@ use std::alloc::{AllocError, Global};
 
 // The line of an entry, and the byte 10.
 pub(crate) fn entry_text(alloc: Global, entry: &Entry) -> Result<Vec<u8>, AllocError>
-    ensures { IfOk result (λ line. line.items ≡ line_text (entry_line entry.now)) }
+    ensures text { IfOk result (λ line. line.items ≡ line_text (entry_line entry.now)) }
+    ensures range { OnOk result (EntryHasRange entry.now) }
 {
     match entry {
         Entry::Header { variables, clauses } => header_line(alloc, *variables, *clauses),
@@ -37,8 +39,11 @@ fn header_line(alloc: Global, variables: u32, clauses: u32) -> Result<Vec<u8>, A
 }
 
 fn end_line(alloc: Global, ending: &Ending) -> Result<Vec<u8>, AllocError>
-    ensures { IfOk result (λ line. line.items ≡ line_text (End ending.now)) }
+    ensures text { IfOk result (λ line. line.items ≡ line_text (End ending.now)) }
+    ensures range { OnOk result (number_of ending.now < 2 ^ 64) }
 {
+    // What is read has the range of its type.
+    let _number = ending.number();
     let mut line = Vec::from_slice(alloc, b"end ")?;
     push_ending(&mut line, ending)?;
     line.push(b'\n')?;
@@ -46,7 +51,9 @@ fn end_line(alloc: Global, ending: &Ending) -> Result<Vec<u8>, AllocError>
 }
 
 fn derived_line(alloc: Global, lits: &[Lit], hints: &[u32]) -> Result<Vec<u8>, AllocError>
-    ensures { IfOk result (λ line. line.items ≡ line_text (Derived lits.now hints.now)) }
+    ensures text { IfOk result (λ line. line.items ≡ line_text (Derived lits.now hints.now)) }
+    ensures literals { OnOk result (All IsLit lits.now) }
+    ensures hints { OnOk result (All (λ hint. hint < 2 ^ 32) hints.now) }
 {
     let mut line = Vec::from_slice(alloc, b"d ")?;
     push_literals(&mut line, lits)?;
@@ -67,7 +74,8 @@ fn blocked_line(alloc: Global, lits: &[Lit]) -> Result<Vec<u8>, AllocError>
 }
 
 fn push_literals(line: &mut Vec<u8>, lits: &[Lit]) -> Result<(), AllocError>
-    ensures { OnOk result (line.new.items ≡ line.old.items ++ flat_map literal_word lits.now) }
+    ensures bytes { OnOk result (line.new.items ≡ line.old.items ++ flat_map literal_word lits.now) }
+    ensures range { OnOk result (All IsLit lits.now) }
 {
     for lit in lits {
         push_literal(line, *lit)?;
@@ -76,7 +84,8 @@ fn push_literals(line: &mut Vec<u8>, lits: &[Lit]) -> Result<(), AllocError>
 }
 
 fn push_literal(line: &mut Vec<u8>, lit: Lit) -> Result<(), AllocError>
-    ensures { OnOk result (line.new.items ≡ line.old.items ++ literal_word lit) }
+    ensures bytes { OnOk result (line.new.items ≡ line.old.items ++ literal_word lit) }
+    ensures range { OnOk result (IsLit lit) }
 {
     if !lit.positive() {
         line.push(b'-')?;
@@ -87,7 +96,8 @@ fn push_literal(line: &mut Vec<u8>, lit: Lit) -> Result<(), AllocError>
 }
 
 fn push_hints(line: &mut Vec<u8>, hints: &[u32]) -> Result<(), AllocError>
-    ensures { OnOk result (line.new.items ≡ line.old.items ++ flat_map number_word hints.now) }
+    ensures bytes { OnOk result (line.new.items ≡ line.old.items ++ flat_map number_word hints.now) }
+    ensures range { OnOk result (All (λ hint. hint < 2 ^ 32) hints.now) }
 {
     for hint in hints {
         push_number(line, u64::from(*hint))?;

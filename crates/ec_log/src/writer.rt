@@ -64,8 +64,9 @@ impl Writer {
     /// each line by one call of `append`.
     ///
     /// Each hint is at least 1, a blocked clause has the variables from 1 on in order, the number of
-    /// a limit is at least 1, and each clause has a number below 2^32. After a refusal the name holds what it held or a prefix of the log;
-    /// where `start` failed nothing is said of it.
+    /// a limit is at least 1, and each clause has a number below 2^32. After a refusal the name holds
+    /// what it held or a prefix of the log; where `start` failed, as its count tells, nothing is said
+    /// of it.
     pub fn write<F: Files>(
         &self,
         files: &mut F,
@@ -80,17 +81,23 @@ impl Writer {
         ensures memory { IsTrue (F.tells files.old) → IsErrOf result WriteFault.Memory →
             AllStay (F.held files.old) (F.held files.new)
             ⊎ AppendsHeldPrefix (log_text self.now ending.now) (Some []) (F.held files.new name.now) }
-        ensures part { IsTrue (F.tells files.old) → IsErrOf result WriteFault.Failed →
-            F.start_may_fail files.old
-            ⊎ AppendsHeldPrefix (log_text self.now ending.now) (Some []) (F.held files.new name.now) }
         ensures failed { IsErrOf result WriteFault.Failed → Rose (F.faults files.old) (F.faults files.new) }
+
+        // Either the start failed, which its count tells, or an `append`, which leaves that count and a prefix of the log.
+        ensures part { IsErrOf result WriteFault.Failed → Rose (F.failed_starts files.old) (F.failed_starts files.new)
+            ⊎ ((F.failed_starts files.new ≡ F.failed_starts files.old)
+            × (IsTrue (F.tells files.old) → AppendsHeldPrefix (log_text self.now ending.now) (Some []) (F.held files.new name.now))) }
+        ensures started { OnOk result (F.failed_starts files.new ≡ F.failed_starts files.old) }
+        ensures started_memory { IsErrOf result WriteFault.Memory → F.failed_starts files.new ≡ F.failed_starts files.old }
 
         ensures others { OthersStay name.now (F.held files.old) (F.held files.new) }
         ensures tells { F.tells files.new ≡ F.tells files.old }
         ensures faults { F.faults files.old ≤ F.faults files.new }
+        ensures absences { F.absences files.old ≤ F.absences files.new }
+        ensures failed_starts { F.failed_starts files.old ≤ F.failed_starts files.new }
 
-        // Each line is a line of a log, which `read_line` gives back.
-        ensures lines { HasRanges self.now ending.now → AllByRecursion IsLine (log_lines self.now ending.now) }
+        // Each line that was written is a line of a log, which `read_line` gives back.
+        ensures lines { OnOk result (AllByRecursion IsLine (log_lines self.now ending.now)) }
     {
         match files.start(name) {
             Ok(()) => self.write_lines(files, name, ending),
@@ -110,12 +117,15 @@ impl Writer {
         requires { IsTrue (F.tells files.old) → F.held files.old name.now ≡ Some [] }
         ensures ok { IsTrue (F.tells files.old) →
             OnOk result (F.held files.new name.now ≡ Some (log_text self.now ending.now)) }
+        ensures range { OnOk result (HasRanges self.now ending.now) }
         ensures part { IsTrue (F.tells files.old) → OnErr result
             (AppendsHeldPrefix (log_text self.now ending.now) (Some []) (F.held files.new name.now)) }
         ensures failed { IsErrOf result WriteFault.Failed → Rose (F.faults files.old) (F.faults files.new) }
         ensures others { OthersStay name.now (F.held files.old) (F.held files.new) }
         ensures tells { F.tells files.new ≡ F.tells files.old }
         ensures faults { F.faults files.old ≤ F.faults files.new }
+        ensures absences { F.absences files.old ≤ F.absences files.new }
+        ensures failed_starts { F.failed_starts files.new ≡ F.failed_starts files.old }
     {
         let header = Entry::Header {
             variables: self.variables,

@@ -1,8 +1,9 @@
-//! What files, sinks, numbers and logs answer, worked by hand, with a fault at each call in turn. It holds tests alone.
+//! What files, sinks, numbers and logs answer, worked by hand, with a fault at each call in turn. It holds tests and what they share.
 #![tactic(auto)]
 
 #[cfg(test)]
 mod answers;
+pub mod cut_file;
 #[cfg(test)]
 mod files;
 #[cfg(test)]
@@ -11,6 +12,8 @@ mod lines;
 mod logs;
 #[cfg(test)]
 mod numbers;
+#[cfg(test)]
+mod readers;
 #[cfg(test)]
 mod sinks;
 #[cfg(test)]
