@@ -24,7 +24,7 @@ take-append_right (x ∷ xs) ys j (suc k) e = ap (λ zs. x ∷ zs) (take-append_
 abbrev pub Each : (List Note → Note → Type 0) → List Note → Type 0
 Each F notes = (k : ℕ) (d : Note) → k < length notes → F (take k notes) (get_or notes k d)
 
-moved : (F : List Note → Note → Type 0) (before before' : List Note) (note note' : Note) → before ≡ before' → note ≡ note' → F before' note' → F before note
+pub moved : (F : List Note → Note → Type 0) (before before' : List Note) (note note' : Note) → before ≡ before' → note ≡ note' → F before' note' → F before note
 moved F before before' note note' e f h = subst (λ ns. F ns note) (sym e) (subst (F before') (sym f) h)
 
 pub each-append : (F : List Note → Note → Type 0) (notes more : List Note) → Each F notes → ((k : ℕ) (d : Note) → k < length more → F (notes ++ take k more) (get_or more k d)) → Each F (notes ++ more)

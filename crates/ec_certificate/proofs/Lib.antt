@@ -1,4 +1,7 @@
 pub mod Forbidding
+pub mod LineBytes
+pub mod Judging
+pub mod JudgedLogs
 pub mod Holding
 pub mod Appending
 pub mod UnderWay

@@ -1,3 +1,4 @@
 pub mod Accepted
+pub mod Judged
 pub mod Shown
 pub mod Progress

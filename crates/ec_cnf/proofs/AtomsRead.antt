@@ -40,17 +40,17 @@ module _ {A : Type 0} where
   map_same f g [] e = All-nil (λ x. f x ≡ g x)
   map_same f g (x ∷ xs) e = let first : f x ≡ g x = cc in let rest : map f xs ≡ map g xs = cc in All-cons (λ y. f y ≡ g y) x xs first (map_same f g xs rest)
 
-  all_at : (P : A → Type 0) (xs : List A) → All P xs → (k : ℕ) (x : A) → slice_get xs k ≡ Some x → P x
+  pub all_at : (P : A → Type 0) (xs : List A) → All P xs → (k : ℕ) (x : A) → slice_get xs k ≡ Some x → P x
   all_at P xs h k x e = subst P (get_or_from_slice_get xs k x x e) (h k x (slice_get_within xs k x e))
 
   all_contained : (xs : List A) → All (Contains xs) xs
   all_contained xs k d l = Contains-get_or xs k d l
 
-  all_joined_each : {B : Type 0} (P : A → Type 0) (f : B → List A) (xs : List B) → All (λ x. All P (f x)) xs → All P (flat_map f xs)
+  pub all_joined_each : {B : Type 0} (P : A → Type 0) (f : B → List A) (xs : List B) → All (λ x. All P (f x)) xs → All P (flat_map f xs)
   all_joined_each P f [] h = All-nil P
   all_joined_each P f (x ∷ xs) h = All-append P (f x) (flat_map f xs) (All-head (λ y. All P (f y)) x xs h) (all_joined_each P f xs (All-tail (λ y. All P (f y)) x xs h))
 
-  in_front : (xs ys : List A) (k : ℕ) (x : A) → slice_get xs k ≡ Some x → slice_get (xs ++ ys) k ≡ Some x
+  pub in_front : (xs ys : List A) (k : ℕ) (x : A) → slice_get xs k ≡ Some x → slice_get (xs ++ ys) k ≡ Some x
   in_front [] ys k x e = absurd cc
   in_front (y ∷ xs) ys zero x e = e
   in_front (y ∷ xs) ys (suc k) x e = in_front xs ys k x e
@@ -97,7 +97,7 @@ module _ (theory : Theory) where
       by_rank None r g = absurd cc
       by_rank (Some j) r g = each_atom universe P all p vs j (omega (arith, low, arguments_length theory.signature.predicates)) r
 
-  abbrev variable_at : GroundAtom → List ℕ
+  abbrev pub variable_at : GroundAtom → List ℕ
   variable_at atom = variable_of (reading_of theory atom.predicate atom.args)
 
   -- an atom that is read as a literal has its variable
@@ -108,16 +108,16 @@ module _ (theory : Theory) where
       let A : Leaf → Type 0 = λ leaf. All (HasVariable theory) (variable_of leaf) in
       All-head (HasVariable theory) k [] (subst A e here)
 
-  of_variable : (P : ℕ → Type 0) (leaf : Leaf) → ((k : ℕ) → leaf ≡ numbered k → P k) → All P (variable_of leaf)
+  pub of_variable : (P : ℕ → Type 0) (leaf : Leaf) → ((k : ℕ) → leaf ≡ numbered k → P k) → All P (variable_of leaf)
   of_variable P (fixed b) go = All-nil P
   of_variable P (numbered k) go = All-cons P k [] (go k refl) (All-nil P)
 
   -- ---- the atoms in order
 
-  abbrev effect_atoms : List GroundAtom
+  abbrev pub effect_atoms : List GroundAtom
   effect_atoms = flat_map (atoms_of universe) effect_predicates
 
-  parts : all_atoms universe ≡ visible_atoms universe ++ effect_atoms
+  pub parts : all_atoms universe ≡ visible_atoms universe ++ effect_atoms
   parts = flat_map-append (atoms_of universe) (visible_predicates universe) effect_predicates
 
   -- what is said of each of some predicates is said of the predicate of each of their atoms
@@ -126,7 +126,7 @@ module _ (theory : Theory) where
       (All-weaker P (λ q. All (λ (atom : GroundAtom). P atom.predicate) (atoms_of universe q))
       (λ q here. All-map (λ (atom : GroundAtom). P atom.predicate) (atom_at universe q) (range_with_len 0 (tuples_of universe q)) (λ k d l. here)) qs h)
 
-  visible_others : All (λ (atom : GroundAtom). is_effect atom.predicate ≡ false) (visible_atoms universe)
+  pub visible_others : All (λ (atom : GroundAtom). is_effect atom.predicate ≡ false) (visible_atoms universe)
   visible_others =
       let P : ℕ → Type 0 = λ p. is_effect p ≡ false in
       of_predicates P (visible_predicates universe)
@@ -134,7 +134,7 @@ module _ (theory : Theory) where
       (All-cons P released_at (happens ∷ declared universe) refl
       (All-cons P happens (declared universe) refl (none_of_declared built_in (length universe.predicates - built_in) (omega arith)))))
 
-  effects_are : All (λ (atom : GroundAtom). is_effect atom.predicate ≡ true) effect_atoms
+  pub effects_are : All (λ (atom : GroundAtom). is_effect atom.predicate ≡ true) effect_atoms
   effects_are =
       let P : ℕ → Type 0 = λ p. is_effect p ≡ true in
       of_predicates P effect_predicates (All-cons P initiates (terminates ∷ releases ∷ []) refl (All-cons P terminates (releases ∷ []) refl (All-cons P releases [] refl (All-nil P))))

@@ -1,5 +1,5 @@
-mod NamedTrees
-mod AtomsRead
+pub mod NamedTrees
+pub mod AtomsRead
 mod Extensions
 mod Once
 pub mod ListOf

@@ -1,5 +1,5 @@
 -- What a search that ended found of a theory.
-use Rattle.std.proofs.Common.{◌≡◌, ℕ, suc, ◌≤◌, ◌^◌, Bool, List, [], ◌∷◌, length, take, All, Contains, IsPermutation, sym, ap, ◌∙◌, subst, arith}
+use Rattle.std.proofs.Common.{◌≡◌, ℕ, suc, ◌+◌, ◌<◌, ◌≤◌, ◌^◌, Bool, List, [], ◌∷◌, length, take, All, Contains, IsPermutation, sym, ap, ◌∙◌, subst, arith}
 use Rattle.std.proofs.lemmas.List.{length-take}
 use Rattle.std.proofs.lemmas.List.Sorted.{Contains-permutation, IsPermutation-sym, length_permutation}
 use Rattle.std.specs.Cmp.Lexicographic.{slice_cmp}
@@ -30,6 +30,7 @@ use Rattle.ec_cnf.proofs.ListOf.{is_list_of}
 use Rattle.ec_solve.specs.Found.{IsWithin, IsFound}
 use Rattle.ec_solve.specs.Progress.{IsDone}
 use Rattle.ec_solve.specs.declared.searching.Bounds.{Bounds}
+use Rattle.ec_solve.proofs.LogLines.{lines_of_accepted}
 use Rattle.ec_solve.proofs.Rising.{rising_sorted}
 
 -- ---- the clause list of a valid theory
@@ -57,32 +58,37 @@ within_same bounds truths truths' notes (Complete n) size w = (w.0 ∙ sym size,
 within_same bounds truths truths' notes (Models n) size w = (w.0 ∙ sym size, w.1, w.2)
 within_same bounds truths truths' notes (Conflicts n) size w = (w.0, omega (arith, size, w.1))
 
-module _ (theory : Theory) (valid : IsValidTheory theory) (bounds : Bounds) (truths truths' : List (List Bool)) (log : Log) (ending : Ending) (few_models : bounds.models ≤ 10000) (few_conflicts : bounds.conflicts ≤ 2000000000) (permutation : IsPermutation truths truths') (sorted : IsSorted (slice_cmp bool_cmp) truths') where
+module _ (theory : Theory) (valid : IsValidTheory theory) (bounds : Bounds) (truths truths' : List (List Bool)) (log : Log) (ending : Ending) (one_model : 1 ≤ bounds.models) (one_conflict : 1 ≤ bounds.conflicts) (few_models : bounds.models ≤ 10000) (few_conflicts : bounds.conflicts ≤ 2000000000) (permutation : IsPermutation truths truths') (sorted : IsSorted (slice_cmp bool_cmp) truths') where
   there : AreAmong truths truths'
   there t c = Contains-permutation truths truths' t permutation c
 
   back : AreAmong truths' truths
   back t c = Contains-permutation truths' truths t (IsPermutation-sym truths truths' permutation) c
 
-  found_of : length (clauses_of theory).clauses ≤ 2 ^ 29 → IsDone (clauses_of theory) bounds (visible_count theory) truths log ending → IsFound theory bounds truths' ending log
-  found_of few_clauses d =
+  found_of : (clauses_of theory).variables ≤ 2 ^ 29 → length (clauses_of theory).clauses ≤ 2 ^ 29 → IsDone (clauses_of theory) bounds (visible_count theory) truths log ending → IsFound theory bounds truths' ending log
+  found_of few_variables few_clauses d =
       let l = list_of_valid theory valid in
       let sizes = met-sizes (clauses_of theory) (visible_count theory) truths d.met in
       let rising = rising_sorted (visible_count theory) truths truths' permutation sorted (all-among truths truths' (λ t. length t ≡ visible_count theory) back sizes) d.apart in
       let true_truths : All (IsTruth theory) truths = (λ k e lt. truth_met theory l _ (d.met k e lt)) in
       let each = each_of (IsTruth theory) truths' (all-among truths truths' (IsTruth theory) back true_truths) in
+      let accepted = accepted-permutation (clauses_of theory) truths truths' ending log permutation d.accepted in
+      let within = within_same bounds truths truths' log.notes ending (length_permutation truths truths' permutation) d.within in
+      let few : length (clauses_of theory).clauses + length log.notes < 2 ^ 32 = omega (arith, d.few, d.few_truths, few_models, few_conflicts, few_clauses) in
       record {
         rising = rising;
         each = each;
         all = λ complete. record { rising = rising; each = each; all = λ found truth. (let e = l.whole found truth in there found (subst (Contains truths) e.extends (d.whole complete e.whole e.meets))) };
-        accepted = accepted-permutation (clauses_of theory) truths truths' ending log permutation d.accepted;
+        accepted = accepted;
         fresh = d.fresh;
-        within = within_same bounds truths truths' log.notes ending (length_permutation truths truths' permutation) d.within;
-        few = omega (arith, d.few, d.few_truths, few_models, few_conflicts, few_clauses);
+        within = within;
+        few_variables = few_variables;
+        few = few;
+        lines = lines_of_accepted (clauses_of theory) bounds truths' ending log one_model one_conflict few_models few_conflicts (omega (arith, few_variables)) few accepted within;
       }
 
   -- What a search of the theory's list found, sorted.
-  pub found_sorted : (list : ClauseList) (visible : ℕ) → list ≡ clauses_of theory → visible ≡ visible_count theory → length list.clauses ≤ 2 ^ 29 → IsDone list bounds visible truths log ending → IsFound theory bounds truths' ending log
-  found_sorted list visible is seen few_clauses d =
+  pub found_sorted : (list : ClauseList) (visible : ℕ) → list ≡ clauses_of theory → visible ≡ visible_count theory → list.variables ≤ 2 ^ 29 → length list.clauses ≤ 2 ^ 29 → IsDone list bounds visible truths log ending → IsFound theory bounds truths' ending log
+  found_sorted list visible is seen few_variables few_clauses d =
       let few : length (clauses_of theory).clauses ≤ 2 ^ 29 = subst (λ (c : ClauseList). length c.clauses ≤ 2 ^ 29) is few_clauses in
-      found_of few (subst (λ v. IsDone (clauses_of theory) bounds v truths log ending) seen (subst (λ c. IsDone c bounds visible truths log ending) is d))
+      found_of (subst (λ (c : ClauseList). c.variables ≤ 2 ^ 29) is few_variables) few (subst (λ v. IsDone (clauses_of theory) bounds v truths log ending) seen (subst (λ c. IsDone c bounds visible truths log ending) is d))

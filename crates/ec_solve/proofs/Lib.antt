@@ -2,5 +2,6 @@ mod Rising
 mod Stages
 mod Rows
 mod Lists
-mod Finding
+pub mod Finding
+pub mod LogLines
 pub mod FoundLaws

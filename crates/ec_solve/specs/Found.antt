@@ -1,5 +1,5 @@
 -- What a search for the truths of a theory finds.
-use Rattle.std.specs.Prelude.{◌≡◌, ◌+◌, ◌<◌, ◌^◌, Bool, true, List, length, count_by}
+use Rattle.std.specs.Prelude.{◌≡◌, ◌+◌, ◌<◌, ◌≤◌, ◌^◌, Bool, true, List, length, count_by}
 use Rattle.std.specs.List.{AllByRecursion}
 use Rattle.ec_logic.specs.Theory.{Theory}
 use Rattle.ec_logic.specs.Listing.{IsRising, IsTruth, AreTruths}
@@ -7,7 +7,8 @@ use Rattle.ec_clause.specs.Note.{Note}
 use Rattle.ec_clause.specs.Ending.{is_complete}
 use Rattle.ec_clause.specs.declared.ending.Ending.{Ending}
 use Rattle.ec_clause.specs.declared.ending.Ending.TheVariants.{Complete, Models, Conflicts}
-use Rattle.ec_log.specs.Log.{Log}
+use Rattle.ec_log.specs.Line.{IsLine}
+use Rattle.ec_log.specs.Log.{Log, log_lines}
 use Rattle.ec_certificate.specs.Accepted.{IsAccepted, has_literal}
 use Rattle.ec_certificate.specs.Shown.{RepeatsNothing}
 use Rattle.ec_cnf.specs.List.{clauses_of}
@@ -31,5 +32,8 @@ pub record IsFound (theory : Theory) (bounds : Bounds) (truths : List (List Bool
   pub accepted : IsAccepted (clauses_of theory) truths ending log
   pub fresh : RepeatsNothing (clauses_of theory) log.notes
   pub within : IsWithin bounds truths log.notes ending
-  -- each clause of the list and of the log has a number of 32 bits
+  -- the list has few variables, and each clause of the list and of the log has a number of 32 bits
+  pub few_variables : (clauses_of theory).variables ≤ 2 ^ 29
   pub few : length (clauses_of theory).clauses + length log.notes < 2 ^ 32
+  -- so that each line of the log can be read
+  pub lines : AllByRecursion IsLine (log_lines log ending)

@@ -21,5 +21,5 @@ returns c =
     let found = c.finish.result in
     let same = c.in_ok-progress.ensures.list in
     let done = subst (λ (e : Ending). IsDone list c.args.bounds now.visible now.truths.items found.log e) (sym c.finish.ensures.ending) (subst (λ (l : Log). IsDone list c.args.bounds now.visible now.truths.items l c.in_ok-ending.ending) (sym c.finish.ensures.log) c.in_ok-ending.ensures.done) in
-    found_sorted (theory_of c.args.theory.now) c.requires.valid c.args.bounds now.truths.items found.truths.items found.log found.ending c.requires.few_models c.requires.few_conflicts c.finish.ensures.permutation c.finish.ensures.sorted
-    list now.visible (same ∙ c.in_ok-list.ensures.list) (c.in_ok-ending.ensures.visible ∙ (c.in_ok-progress.ensures.visible ∙ c.in_ok-list.ensures.visible)) (subst (λ (l : ClauseList). length l.clauses ≤ 2 ^ 29) (sym same) c.in_ok-list.ensures.few_clauses) done
+    found_sorted (theory_of c.args.theory.now) c.requires.valid c.args.bounds now.truths.items found.truths.items found.log found.ending c.requires.one_model c.requires.one_conflict c.requires.few_models c.requires.few_conflicts c.finish.ensures.permutation c.finish.ensures.sorted
+    list now.visible (same ∙ c.in_ok-list.ensures.list) (c.in_ok-ending.ensures.visible ∙ (c.in_ok-progress.ensures.visible ∙ c.in_ok-list.ensures.visible)) (subst (λ (l : ClauseList). l.variables ≤ 2 ^ 29) (sym same) c.in_ok-list.ensures.few_variables) (subst (λ (l : ClauseList). length l.clauses ≤ 2 ^ 29) (sym same) c.in_ok-list.ensures.few_clauses) done
