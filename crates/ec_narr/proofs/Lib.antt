@@ -3,4 +3,8 @@ pub mod ValueLemmas
 pub mod GroundLemmas
 pub mod TimeLemmas
 pub mod LineLemmas
+pub mod PassingLemmas
+pub mod JunctureLemmas
+pub mod NextLemmas
 pub mod PredicateLemmas
+pub mod SlotLemmas

@@ -30,16 +30,16 @@ module _ (signature : Signature) (valid : IsSignature signature) (n : ℕ) where
   pub event_domain : n ≡ size_of (extent_at (universe_of signature) event_sort) → domain (universe_of signature) event_sort ≡ map pos (range_with_len 0 n)
   event_domain e = let x = event_extent signature valid in ap domain_of x ∙ members_domain (ground_events signature) n (e ∙ ap size_of x)
 
-module _ (value : ℕ → ℤ) (F : ℤ → List ℕ) (old : List ℕ) where
+module _ {X : Type 0} (value : ℕ → ℤ) (F : ℤ → List X) (old : List X) where
   -- one line more
-  pub next_line : (k : ℕ) (out next : List ℕ) → out ≡ old ++ flat_map F (map value (range_with_len 0 k)) → next ≡ out ++ F (value k) → next ≡ old ++ flat_map F (map value (range_with_len 0 (k + 1)))
+  pub next_line : (k : ℕ) (out next : List X) → out ≡ old ++ flat_map F (map value (range_with_len 0 k)) → next ≡ out ++ F (value k) → next ≡ old ++ flat_map F (map value (range_with_len 0 (k + 1)))
   next_line k out next e f =
       let more : map value (range_with_len 0 (k + 1)) ≡ map value (range_with_len 0 k) ++ value k ∷ [] = map-range_with_len_more value 0 k k (omega arith) in
       let one : flat_map F (value k ∷ []) ≡ F (value k) = append-nil (F (value k)) in
       f ∙ (ap (λ x. x ++ F (value k)) e ∙ (append_assoc old (flat_map F (map value (range_with_len 0 k))) (F (value k))
       ∙ ap (λ x. old ++ x) (ap (λ x. flat_map F (map value (range_with_len 0 k)) ++ x) (sym one) ∙ (sym (flat_map-append F (map value (range_with_len 0 k)) (value k ∷ [])) ∙ ap (flat_map F) (sym more)))))
 
-  pub last_line : (k n : ℕ) (out : List ℕ) (all : List ℤ) → k ≡ n → all ≡ map value (range_with_len 0 n) → out ≡ old ++ flat_map F (map value (range_with_len 0 k)) → out ≡ old ++ flat_map F all
+  pub last_line : (k n : ℕ) (out : List X) (all : List ℤ) → k ≡ n → all ≡ map value (range_with_len 0 n) → out ≡ old ++ flat_map F (map value (range_with_len 0 k)) → out ≡ old ++ flat_map F all
   last_line k n out all e d f = f ∙ ap (λ xs. old ++ flat_map F xs) (ap (λ m. map value (range_with_len 0 m)) e ∙ sym d)
 
 pub five : (o a b c d e : List ℕ) → o ++ a ++ b ++ c ++ d ++ e ≡ o ++ (a ++ b ++ c ++ d ++ e)

@@ -31,7 +31,7 @@ item_at [] k h = absurd (omega (arith, h))
 item_at (x ∷ xs) zero h = (x, refl)
 item_at (x ∷ xs) (suc k) h = item_at xs k (omega (arith, h))
 
-drop_all : (xs : List GroundAtom) (k : ℕ) → length xs ≤ k → drop k xs ≡ []
+pub drop_all : (xs : List GroundAtom) (k : ℕ) → length xs ≤ k → drop k xs ≡ []
 drop_all [] zero h = refl
 drop_all [] (suc k) h = refl
 drop_all (x ∷ xs) zero h = absurd (omega (arith, h))

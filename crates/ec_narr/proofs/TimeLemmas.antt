@@ -5,7 +5,7 @@ use Rattle.std.proofs.lemmas.Bool.Decides.{nat_tests}
 use Rattle.std.proofs.lemmas.Int.{ints}
 use Rattle.ec_logic.specs.Axiom.{first_time}
 use Rattle.ec_logic.specs.Extent.{numbers, members, rank, size_of, domain_of, natural, passing}
-use Rattle.ec_logic.specs.Narrative.{before_time, is_noninertial, integer_text, line}
+use Rattle.ec_logic.specs.Narrative.{before_time, is_noninertial, integer_text}
 use Rattle.ec_logic.specs.Signature.{Signature, SortRow, SymbolRow, time_sort, event_sort, fluent_sort}
 use Rattle.ec_logic.specs.Universe.{Universe, universe_of, extent_at, extent_of_range, domain, row_of, argument_sorts, symbol_at, tuple_rank}
 use Rattle.ec_logic.specs.Valid.{IsSignature, is_range, range_of, range_limit}
@@ -184,11 +184,11 @@ noninertial_is signature place term b is h = cases (slice_get signature.fluents 
 
 -- ---- lines joined
 
-pub joined : (o a b : List ℕ) (t : ℤ) → o ++ a ++ b ++ at_time t ≡ o ++ line (a ++ b ++ codes ", " ++ integer_text t ++ codes ").")
-joined o a b t = ends (codes ", ") (integer_text t) (codes ").") (10 ∷ [])
+pub joined : (o a b : List ℕ) (t : ℤ) → o ++ a ++ b ++ at_time t ≡ o ++ (a ++ b ++ codes ", " ++ integer_text t ++ codes ").")
+joined o a b t = ends (codes ", ") (integer_text t) (codes ").")
   where
-    ends : (c d e f : List ℕ) → o ++ a ++ b ++ (c ++ d ++ e ++ f) ≡ o ++ (a ++ b ++ c ++ d ++ e ++ f)
-    ends c d e f =
-        ap (λ x. x ++ (c ++ d ++ e ++ f)) (append_assoc o a b)
-        ∙ (append_assoc o (a ++ b) (c ++ d ++ e ++ f)
-        ∙ ap (λ x. o ++ x) (sym (append_assoc (a ++ b) (c ++ d ++ e) f) ∙ ap (λ x. x ++ f) (sym (append_assoc (a ++ b) (c ++ d) e) ∙ ap (λ x. x ++ e) (sym (append_assoc (a ++ b) c d)))))
+    ends : (c d e : List ℕ) → o ++ a ++ b ++ (c ++ d ++ e) ≡ o ++ (a ++ b ++ c ++ d ++ e)
+    ends c d e =
+        ap (λ x. x ++ (c ++ d ++ e)) (append_assoc o a b)
+        ∙ (append_assoc o (a ++ b) (c ++ d ++ e)
+        ∙ ap (λ x. o ++ x) (sym (append_assoc (a ++ b) (c ++ d) e) ∙ ap (λ x. x ++ e) (sym (append_assoc (a ++ b) c d))))

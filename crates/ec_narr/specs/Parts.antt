@@ -1,5 +1,5 @@
 -- Parts of a narrative's text.
-use Rattle.std.specs.Prelude.{ℕ, zero, suc, codes, ℤ, Bool, is_some, List, [], ◌∷◌, ◌++◌}
+use Rattle.std.specs.Prelude.{ℕ, zero, suc, codes, ℤ, Bool, is_some, List, [], ◌++◌}
 use Rattle.ec_logic.specs.Extent.{rank}
 use Rattle.ec_logic.specs.Narrative.{integer_text}
 use Rattle.ec_logic.specs.Signature.{time_sort}
@@ -14,6 +14,6 @@ separator (suc k) = codes ", "
 abbrev pub is_time : Universe → ℤ → Bool
 is_time universe t = is_some (rank (extent_at universe time_sort) t)
 
--- the end of a line that tells of a time
+-- the end of what tells of a time
 abbrev pub at_time : ℤ → List ℕ
-at_time t = codes ", " ++ integer_text t ++ codes ")." ++ 10 ∷ []
+at_time t = codes ", " ++ integer_text t ++ codes ")."

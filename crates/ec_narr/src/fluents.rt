@@ -21,20 +21,25 @@ use ec_row::Row;
 use ec_theory::{Signature, Value};
 use std::alloc::AllocError;
 
-const HOLDS_AT: u32 = 0;
+/// The number of `HoldsAt`.
+pub const HOLDS_AT: u32 = 0;
 
-const RELEASED_AT: u32 = 1;
+/// The number of `ReleasedAt`.
+pub const RELEASED_AT: u32 = 1;
 
-const HAPPENS: u32 = 2;
+/// The number of `Happens`.
+pub const HAPPENS: u32 = 2;
 
-fn place_value(place: u64) -> Value
+/// The value that is the place of a ground fluent or event.
+pub fn place_value(place: u64) -> Value
     requires { place < 2 ^ 62 }
     ensures { result.0 ≡ pos place }
 {
     Value(place as i64)
 }
 
-fn time_before(time: Value) -> Value
+/// The time before one.
+pub fn time_before(time: Value) -> Value
     requires { neg_ℤ (pos (2 ^ 62)) ≤ℤ time.0 }
     ensures { result.0 ≡ before_time time.0 }
 {
@@ -176,7 +181,8 @@ pub fn push_fluent_line(
     push_told(out, signature, atoms, tells, fluent)
 }
 
-fn is_noninertial(signature: &Signature, atoms: &Atoms, fluent: u64) -> Result<bool, AllocError>
+/// Whether the symbol of a ground fluent is noninertial.
+pub fn is_noninertial(signature: &Signature, atoms: &Atoms, fluent: u64) -> Result<bool, AllocError>
     requires same { atoms.now ≡ signature.now }
     requires fluent { fluent < size_of (extent_at (universe_of signature.now) fluent_sort) }
     ensures { IfOk result (λ b. b ≡ noninertial_at signature.now (pos fluent)) }
@@ -185,17 +191,18 @@ fn is_noninertial(signature: &Signature, atoms: &Atoms, fluent: u64) -> Result<b
     Ok(signature.noninertial(term.symbol))
 }
 
-// Adds the end of a line that tells of a time.
+// Adds the end of what tells of a time.
 fn push_at_time(out: &mut Vec<u8>, time: Value) -> Result<(), AllocError>
     ensures { OnOk result (out.new.items ≡ out.old.items ++ at_time time.0) }
 {
     out.extend_from_slice(b", ")?;
     push_integer(out, time.0)?;
-    out.extend_from_slice(b").\n")?;
+    out.extend_from_slice(b").")?;
     Ok(())
 }
 
-fn push_release(
+/// Adds that a fluent is released at a time.
+pub fn push_release(
     out: &mut Vec<u8>,
     signature: &Signature,
     atoms: &Atoms,
@@ -205,7 +212,7 @@ fn push_release(
     requires valid { IsSignature signature.now }
     requires same { atoms.now ≡ signature.now }
     requires fluent { fluent < size_of (extent_at (universe_of signature.now) fluent_sort) }
-    ensures { OnOk result (out.new.items ≡ out.old.items ++ line (codes "ReleasedAt(" ++ fluent_text signature.now (pos fluent) ++ codes ", " ++ integer_text time.0 ++ codes ").")) }
+    ensures { OnOk result (out.new.items ≡ out.old.items ++ (codes "ReleasedAt(" ++ fluent_text signature.now (pos fluent) ++ codes ", " ++ integer_text time.0 ++ codes ").")) }
 {
     out.extend_from_slice(b"ReleasedAt(")?;
     push_fluent(out, signature, atoms, fluent)?;
@@ -235,10 +242,13 @@ pub fn push_released_line(
     if is_noninertial(signature, atoms, fluent)? {
         return Ok(());
     }
-    push_release(out, signature, atoms, time, fluent)
+    push_release(out, signature, atoms, time, fluent)?;
+    out.push(b'\n')?;
+    Ok(())
 }
 
-fn push_happening(
+/// Adds that an event happens at a time.
+pub fn push_happening(
     out: &mut Vec<u8>,
     signature: &Signature,
     atoms: &Atoms,
@@ -248,7 +258,7 @@ fn push_happening(
     requires valid { IsSignature signature.now }
     requires same { atoms.now ≡ signature.now }
     requires event { event < size_of (extent_at (universe_of signature.now) event_sort) }
-    ensures { OnOk result (out.new.items ≡ out.old.items ++ line (codes "Happens(" ++ event_text signature.now (pos event) ++ codes ", " ++ integer_text time.0 ++ codes ").")) }
+    ensures { OnOk result (out.new.items ≡ out.old.items ++ (codes "Happens(" ++ event_text signature.now (pos event) ++ codes ", " ++ integer_text time.0 ++ codes ").")) }
 {
     out.extend_from_slice(b"Happens(")?;
     push_event(out, signature, atoms, event)?;
@@ -275,5 +285,7 @@ pub fn push_happens_line(
     if !event_happens(signature, atoms, truth, event, time) {
         return Ok(());
     }
-    push_happening(out, signature, atoms, time, event)
+    push_happening(out, signature, atoms, time, event)?;
+    out.push(b'\n')?;
+    Ok(())
 }

@@ -17,8 +17,8 @@ use std::alloc::AllocError;
 // The first declared predicate, behind the built-in ones.
 const DECLARED: u32 = 6;
 
-// The number of the first atom of a declared predicate, or of visible atoms where there is none.
-fn first_declared(signature: &Signature, atoms: &Atoms) -> u64
+/// The number of the first atom of a declared predicate, or of visible atoms where there is none.
+pub fn first_declared(signature: &Signature, atoms: &Atoms) -> u64
     requires valid { IsSignature signature.now }
     requires same { atoms.now ≡ signature.now }
     ensures { drop result (visible_atoms (universe_of signature.now)) ≡ flat_map (atoms_of (universe_of signature.now)) (declared (universe_of signature.now)) }

@@ -98,7 +98,8 @@ fn push_time(
     Ok(())
 }
 
-fn time_after(first: Value, step: u64) -> Value
+/// The time so many steps behind the first.
+pub fn time_after(first: Value, step: u64) -> Value
     requires low { neg_ℤ (pos range_limit) ≤ℤ first.0 }
     requires high { first.0 ≤ℤ pos range_limit }
     requires few { step < 2 ^ 32 }
