@@ -1,4 +1,4 @@
-//! What literals, clause lists, trails, watches and searches answer, worked by hand. It holds tests alone.
+//! What literals, clause lists, trails, watches, searches and steps answer, worked by hand. It holds tests alone.
 #![tactic(auto)]
 
 #[cfg(test)]
@@ -9,6 +9,8 @@ mod literals;
 mod replays;
 #[cfg(test)]
 mod searches;
+#[cfg(test)]
+mod steps;
 #[cfg(test)]
 mod trails;
 #[cfg(test)]

@@ -1,0 +1,4 @@
+pub mod Marking
+pub mod Falsifying
+pub mod Following
+pub mod Reaching

@@ -1,0 +1,4 @@
+pub mod Marked
+pub mod Refused
+pub mod Checked
+pub mod Reached
