@@ -1,0 +1,9 @@
+mod Copied
+mod Parts
+mod TreeAtoms
+mod Within
+mod EffectScopes
+mod TreeTruths
+mod Filling
+mod Auditing
+mod Passing

@@ -1,0 +1,4 @@
+pub mod Untrue
+pub mod Fillable
+pub mod Ground
+pub mod Firsts
