@@ -1,0 +1,4 @@
+pub mod TruthLemmas
+pub mod LeftLemmas
+pub mod WalkLemmas
+pub mod CheckLemmas
