@@ -1,5 +1,5 @@
 -- What a root comes to, by the layers' answers.
-use Rattle.std.proofs.Common.{ℕ, ◌≤◌, ◌<◌, ◌∙◌, List, Option, Result, Ok, Err, IfOk, ap, sym, subst}
+use Rattle.std.proofs.Common.{◌≡◌, ℕ, ◌≤◌, ◌<◌, ◌∙◌, List, Option, Result, Ok, Err, IfOk, ap, sym, subst}
 use Rattle.ec_load.specs.Book.{IsBook}
 use Rattle.ec_logic.specs.Theory as logic
 use Rattle.ec_syntax.specs.declared.book.Refusal.{Refusal}
@@ -9,7 +9,9 @@ use Rattle.ec_theory.specs.Theories.{theory_of}
 use Rattle.ec_theory.specs.declared.sorted.Sorted.{Sorted}
 use Rattle.ec_theory.specs.declared.theory.Theory.{Theory}
 use Rattle.ec_sort.specs.Answers.{IsSorted}
-use Rattle.ec_accept.specs.Accepted.{IsAccepted, said, unread, unsaid, IsMeasured, fits, heavy, many_atoms, IsSaid, sorted, unsorted, IsSplitInto, visible_count}
+use Rattle.ec_split.specs.Parts.{parts_of}
+use Rattle.ec_split.specs.Split.{split_of}
+use Rattle.ec_accept.specs.Accepted.{IsAccepted, said, unread, unsaid, IsMeasured, fits, heavy, many_atoms, IsSaid, sorted, unsorted, IsSplitInto, SaysParts, visible_count}
 use Rattle.ec_accept.specs.Answers.{Answers}
 use Rattle.ec_accept.specs.Steps.{Gives, Measures, Numbers, Sorts, Weighs}
 use Rattle.ec_weight.specs.Weight.{weight_of}
@@ -29,6 +31,11 @@ said_sorted book found h (Ok theory) s = sorted found h s
 said_sorted book found h (Err (fault.Refused refusal)) s = sorted found h s
 said_sorted book found h (Err fault.Files) s = tt
 said_sorted book found h (Err fault.Memory) s = tt
+
+pub says_parts : (book : w.Book) (found : Sorted) → IsSorted book found → (result : Result Theory AcceptFault)
+    → IfOk result (λ theory. split_of found.signature found.labelled.items found.wanted.items ≡ Ok (parts_of theory)) → IfOk result (λ theory. SaysParts book (parts_of theory))
+says_parts book found h (Ok theory) s = record { found = found; sorted = h; split = s }
+says_parts book found h (Err fault) s = tt
 
 -- ---- a root
 

@@ -8,7 +8,7 @@ use Rattle.ec_syntax.specs.Written.{Book}
 use Rattle.ec_load.specs.Book.{IsBook}
 use Rattle.ec_load.specs.Refusals.{refused, in_file}
 use Rattle.ec_sort.specs.Answers.{IsSorted, book_refusal}
-use Rattle.ec_split.specs.Parts.{parts_of}
+use Rattle.ec_split.specs.Parts.{Parts, parts_of}
 use Rattle.ec_split.specs.Split.{split_of}
 use Rattle.ec_theory.specs.Theories.{theory_of}
 use Rattle.ec_theory.specs.declared.sorted.Sorted.{Sorted}
@@ -46,3 +46,15 @@ pub record HasFiles (held : List ℕ → Option (List ℕ)) (root : List ℕ) (f
   pub book : Book
   pub is : IsBook held root (Ok book)
   pub are : book.files ≡ files
+
+-- A book's theory has these parts: its sentences with their places, and its groups with their names.
+pub record SaysParts (book : Book) (parts : Parts) : Type 0 where
+  pub found : Sorted
+  pub sorted : IsSorted book found
+  pub split : split_of found.signature found.labelled.items found.wanted.items ≡ Ok parts
+
+-- The theory of a root's book has these parts.
+pub record HasParts (held : List ℕ → Option (List ℕ)) (root : List ℕ) (parts : Parts) : Type 0 where
+  pub book : Book
+  pub is : IsBook held root (Ok book)
+  pub says : SaysParts book parts

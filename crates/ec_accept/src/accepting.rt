@@ -1,5 +1,5 @@
 //! From a root file to its theory.
-ghost use Rattle.std.specs.Prelude.{◌≡◌, ◌≤◌, ℕ, List, length, Option, Result, IsTrue, IfOk, Err};
+ghost use Rattle.std.specs.Prelude.{◌≡◌, ◌≤◌, ℕ, List, length, Option, Result, IsTrue, IfOk, Err, Ok};
 ghost use Rattle.ec_edge.specs.Causes.{Rose};
 ghost use Rattle.ec_edge.specs.Pieces.{AllStay};
 ghost use Rattle.ec_load.specs.Book.{IsBook};
@@ -11,7 +11,9 @@ ghost use Rattle.ec_syntax.specs.declared.book.Refusal.{Refusal};
 ghost use Rattle.ec_syntax.specs.View.{book_of};
 ghost use Rattle.ec_theory.specs.Theories.{theory_of};
 ghost use Rattle.ec_weight.specs.Weight.{weight_of};
-ghost use Rattle.ec_accept.specs.Accepted.{HasFiles, IsAccepted, IsSaid, IsSplitInto, visible_count};
+ghost use Rattle.ec_split.specs.Parts.{parts_of};
+ghost use Rattle.ec_split.specs.Split.{split_of};
+ghost use Rattle.ec_accept.specs.Accepted.{HasFiles, HasParts, IsAccepted, IsSaid, IsSplitInto, SaysParts, visible_count};
 ghost use Rattle.ec_accept.specs.Answers.{Answers};
 ghost use Rattle.ec_accept.specs.Steps.{FailsByText, Gives, Measures, Numbers, Sorts, Weighs};
 
@@ -55,7 +57,7 @@ fn read<F: Files>(alloc: Global, files: &mut F, root: &str) -> Result<Book, Acce
     ensures failed { result ≡ Err AcceptFault.Files → Rose (F.faults files.old) (F.faults files.new) }
     ensures absent { (r : Refusal) → result ≡ Err (AcceptFault.Refused r) → r.code ≡ 1 → Rose (F.absences files.old) (F.absences files.new) }
     ensures stays { AllStay (F.held files.old) (F.held files.new) }
-    ensures starts { F.start_may_fail files.new → F.start_may_fail files.old }
+    ensures failed_starts { F.failed_starts files.new ≡ F.failed_starts files.old }
     ensures tells { F.tells files.new ≡ F.tells files.old }
     ensures faults { F.faults files.old ≤ F.faults files.new }
     ensures absences { F.absences files.old ≤ F.absences files.new }
@@ -86,6 +88,7 @@ fn sorted(alloc: Global, book: &Book) -> Result<Sorted, AcceptFault>
 fn split_into(alloc: Global, sorted: Sorted) -> Result<Theory, AcceptFault>
     requires { CanBeSplit sorted }
     ensures splits { Gives theory_of (IsSplitInto sorted) result }
+    ensures parts { IfOk result (λ theory. split_of sorted.signature sorted.labelled.items sorted.wanted.items ≡ Ok (parts_of theory)) }
     ensures valid { IfOk result (λ theory. IsValidTheory (theory_of theory)) }
     ensures text { FailsByText result }
 {
@@ -100,6 +103,7 @@ fn split_into(alloc: Global, sorted: Sorted) -> Result<Theory, AcceptFault>
 fn said(alloc: Global, book: &Book) -> Result<Theory, AcceptFault>
     requires { IsSound (book_of book.now) }
     ensures says { Gives theory_of (IsSaid (book_of book.now)) result }
+    ensures parts { IfOk result (λ theory. SaysParts (book_of book.now) (parts_of theory)) }
     ensures valid { IfOk result (λ theory. IsValidTheory (theory_of theory)) }
     ensures text { FailsByText result }
 {
@@ -160,12 +164,13 @@ pub fn accept<F: Files>(alloc: Global, files: &mut F, root: &str) -> Result<Acce
     ensures numbered { IfOk result (λ accepted. accepted.atoms ≡ accepted.theory.signature) }
     ensures few { IfOk result (λ accepted. visible_count (theory_of accepted.theory) ≤ 262144) }
     ensures light { IfOk result (λ accepted. weight_of (theory_of accepted.theory) ≤ 4000000) }
+    ensures parts { IsTrue (F.tells files.old) → IfOk result (λ accepted. HasParts (F.held files.old) root.now (parts_of accepted.theory)) }
     ensures files { IsTrue (F.tells files.old) → IfOk result (λ accepted. HasFiles (F.held files.old) root.now accepted.files.items) }
     ensures few_files { IfOk result (λ accepted. length accepted.files.items ≤ 64) }
     ensures failed { result ≡ Err AcceptFault.Files → Rose (F.faults files.old) (F.faults files.new) }
     ensures absent { (r : Refusal) → result ≡ Err (AcceptFault.Refused r) → r.code ≡ 1 → Rose (F.absences files.old) (F.absences files.new) }
     ensures stays { AllStay (F.held files.old) (F.held files.new) }
-    ensures starts { F.start_may_fail files.new → F.start_may_fail files.old }
+    ensures failed_starts { F.failed_starts files.new ≡ F.failed_starts files.old }
     ensures tells { F.tells files.new ≡ F.tells files.old }
     ensures faults { F.faults files.old ≤ F.faults files.new }
     ensures absences { F.absences files.old ≤ F.absences files.new }
