@@ -13,6 +13,15 @@ shown = refl
 solved : job_of (codes "solve" ∷ codes "a.e" ∷ codes "l" ∷ []) ≡ Some (job.Solve (codes "a.e") (codes "l") (record { models = 1000; conflicts = 200000 }))
 solved = refl
 
+checked : job_of (codes "check" ∷ codes "a.e" ∷ codes "a.out" ∷ codes "a.log" ∷ []) ≡ Some (job.Check (codes "a.e") (codes "a.out") (codes "a.log"))
+checked = refl
+
+check_without_log : job_of (codes "check" ∷ codes "a.e" ∷ codes "a.out" ∷ []) ≡ None
+check_without_log = refl
+
+check_with_options : job_of (codes "check" ∷ codes "a.e" ∷ codes "a.out" ∷ codes "a.log" ∷ codes "--models" ∷ codes "2" ∷ []) ≡ None
+check_with_options = refl
+
 without_log : job_of (codes "solve" ∷ codes "a.e" ∷ []) ≡ None
 without_log = refl
 

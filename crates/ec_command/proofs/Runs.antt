@@ -1,17 +1,20 @@
 -- What a command put and wrote is what the run puts and writes.
-use Rattle.std.proofs.Common.{◌≡◌, ◌⊎◌, inl, inr, ℕ, List, ◌++◌, Option, Some, None, codes, refl, ap, sym, subst, ◌∙◌}
+use Rattle.std.proofs.Common.{◌≡◌, ◌⊎◌, inl, inr, ℕ, Bool, List, Option, Some, None, refl, ap, sym, subst, ◌∙◌}
 use Rattle.ec_clause.specs.declared.ending.Ending.TheVariants.{Complete, Models, Conflicts}
 use Rattle.ec_logic.specs.Theory.{Theory}
-use Rattle.ec_edge.specs.Pieces.{AppendsPrefix}
 use Rattle.ec_syntax.specs.declared.book.Refusal.{Refusal}
 use Rattle.ec_solve.specs.declared.searching.Bounds.{Bounds}
+use Rattle.ec_engine.specs.declared.checking.CheckEnd.{CheckEnd}
+use Rattle.ec_engine.specs.declared.checking.CheckEnd.TheVariants as check
 use Rattle.ec_engine.specs.declared.listing.ListEnd.{ListEnd}
 use Rattle.ec_engine.specs.declared.listing.ListEnd.TheVariants as list
 use Rattle.ec_engine.specs.declared.showing.ShowEnd.{ShowEnd}
 use Rattle.ec_engine.specs.declared.showing.ShowEnd.TheVariants as show
 use Rattle.ec_engine.specs.declared.solving.SolveEnd.{SolveEnd}
 use Rattle.ec_engine.specs.declared.solving.SolveEnd.TheVariants as solve
+use Rattle.ec_engine.specs.Check.{IsCheckDue, CheckPutsPrefix, IsCheckAnswered}
 use Rattle.ec_engine.specs.List.{IsDue, PutsPrefix, IsAnswered}
+use Rattle.ec_engine.specs.Sent.{SentPart, SentNothing}
 use Rattle.ec_engine.specs.Show.{IsShowDue, ShowPutsPrefix, IsShowAnswered}
 use Rattle.ec_engine.specs.Solve as solves
 use Rattle.ec_engine.specs.Solve.{IsSolveDue, SolvePutsPrefix, WritesPrefix, IsSolveAnswered, IsSolvable, CanComplete, IsWholeUnlessFailed}
@@ -19,87 +22,110 @@ use Rattle.ec_command.specs.declared.status.Status.{Status}
 use Rattle.ec_command.specs.declared.status.Status.TheVariants as status
 use Rattle.ec_command.specs.declared.words.Job.{Job}
 use Rattle.ec_command.specs.declared.words.Job.TheVariants as job
-use Rattle.ec_command.specs.Ends.{list_status, show_status, solve_status}
+use Rattle.ec_command.specs.Ends.{check_status, list_status, show_status, solve_status}
 use Rattle.ec_command.specs.Words.{job_of}
-use Rattle.ec_command.specs.Run.{usage, listed, list_refused, solved, limited_by_models, limited_by_conflicts, solve_refused, shown, show_refused, Puts, PutsPart, PutsNothing, Completes, IsRun, IsWholeAnswer, log_of}
+use Rattle.ec_command.specs.Run.{usage, usage_text, IsNoJobAnswer, listed, list_refused, solved, limited_by_models, limited_by_conflicts, solve_refused, checked, checked_to_models, checked_to_conflicts, not_shown, check_refused, shown, show_refused, PutsPart, PutsNothing, Completes, IsRun, IsWholeAnswer, log_of}
 
 -- ---- words that are no job
 
-pub usage_put : (words : List (List ℕ)) (held holds : List ℕ → Option (List ℕ)) (before after : List ℕ) → job_of words ≡ None → after ≡ before ++ codes "usage\n" → Puts words held holds before after status.Usage
-usage_put words held holds before after none put = record { text = codes "usage\n"; due = usage none; put = put }
-
-pub usage_part : (words : List (List ℕ)) (held holds : List ℕ → Option (List ℕ)) (before after : List ℕ) → job_of words ≡ None → AppendsPrefix (codes "usage\n") before after → PutsPart words held holds before after
-usage_part words held holds before after none put = record { answered = status.Usage; text = codes "usage\n"; due = usage none; put = put }
-
--- what is said where no start can fail is said in any case
-pub wherever_starts_fail : (words : List (List ℕ)) (held holds : List ℕ → Option (List ℕ)) (before after : List ℕ) (start_may_fail : Type 0) (answered : Status) → IsRun words held holds before after ⊥ answered → IsRun words held holds before after start_may_fail answered
-wherever_starts_fail words held holds before after start_may_fail status.Complete p = p
-wherever_starts_fail words held holds before after start_may_fail status.Limit p = p
-wherever_starts_fail words held holds before after start_may_fail status.Refused p = p
-wherever_starts_fail words held holds before after start_may_fail status.No p = p
-wherever_starts_fail words held holds before after start_may_fail status.FilesFault (inl p) = absurd (p.0)
-wherever_starts_fail words held holds before after start_may_fail status.FilesFault (inr p) = inr p
-wherever_starts_fail words held holds before after start_may_fail status.OutFault p = p
-wherever_starts_fail words held holds before after start_may_fail status.Usage p = p
-wherever_starts_fail words held holds before after start_may_fail status.NoMemory p = p
+-- What was put for words that are no job is due for them, whatever the names hold.
+pub no_job_run : (words : List (List ℕ)) (held : List ℕ → Option (List ℕ)) (told : Bool) (before after : List ℕ) (start_failed : Type 0) (answered : Status) → job_of words ≡ None → IsNoJobAnswer told before after answered
+    → IsRun words held held told before after start_failed answered
+no_job_run words held told before after start_failed status.Complete none p = absurd p
+no_job_run words held told before after start_failed status.Limit none p = absurd p
+no_job_run words held told before after start_failed status.Refused none p = absurd p
+no_job_run words held told before after start_failed status.No none p = absurd p
+no_job_run words held told before after start_failed status.FilesFault none p = absurd p
+no_job_run words held told before after start_failed status.OutFault none p = record { answered = status.Usage; text = usage_text; due = usage none; put = p }
+no_job_run words held told before after start_failed status.Usage none p = record { text = usage_text; due = usage none; put = p }
+no_job_run words held told before after start_failed status.NoMemory none p = inr (record { answered = status.Usage; text = usage_text; due = usage none; put = p })
 
 -- nothing was done
-pub untouched : (words : List (List ℕ)) (held : List ℕ → Option (List ℕ)) (before : List ℕ) → PutsNothing words held held before before
-untouched words held before = record { same = refl; log_part = λ file log bounds asked. inl refl }
+pub untouched : (words : List (List ℕ)) (held : List ℕ → Option (List ℕ)) (told : Bool) (before : List ℕ) → PutsNothing words held held told before before
+untouched words held told before = record { same = λ _. refl; log_part = λ file log bounds asked. inl refl }
 
 -- ---- a job without a log
 
-no_log : (words : List (List ℕ)) (held holds : List ℕ → Option (List ℕ)) (before after : List ℕ) (asked : Job) → job_of words ≡ Some asked → log_of (Some asked) ≡ None → after ≡ before → PutsNothing words held holds before after
-no_log words held holds before after asked is none same = record {
+no_log : (words : List (List ℕ)) (held holds : List ℕ → Option (List ℕ)) (told : Bool) (before after : List ℕ) (asked : Job) → job_of words ≡ Some asked → log_of (Some asked) ≡ None → SentNothing told before after
+    → PutsNothing words held holds told before after
+no_log words held holds told before after asked is none same = record {
   same = same;
   log_part = λ file log bounds other.
       let clash : Some log ≡ None = ap log_of (sym other ∙ is) ∙ none in
       absurd (cc);
 }
 
-module _ (words : List (List ℕ)) (held holds : List ℕ → Option (List ℕ)) (start_may_fail : Type 0) (file : List ℕ) (asked : job_of words ≡ Some (job.List file)) where
-  list_due : (before after : List ℕ) (answer : ListEnd) (text : List ℕ) → IsDue held file answer text → AppendsPrefix text before after → PutsPart words held holds before after
+module _ (words : List (List ℕ)) (held holds : List ℕ → Option (List ℕ)) (told : Bool) (start_failed : Type 0) (file : List ℕ) (asked : job_of words ≡ Some (job.List file)) where
+  list_due : (before after : List ℕ) (answer : ListEnd) (text : List ℕ) → IsDue held file answer text → SentPart told text before after → PutsPart words held holds told before after
   list_due before after (list.Complete count) text due put = record { answered = status.Complete; text = text; due = listed file count text asked due; put = put }
   list_due before after (list.Refused r) text due put = record { answered = status.Refused; text = text; due = list_refused file r text asked due; put = put }
   list_due before after list.Files text due put = absurd due
   list_due before after list.Out text due put = absurd due
   list_due before after list.Memory text due put = absurd due
 
-  list_part : (before after : List ℕ) → PutsPrefix held file before after → PutsPart words held holds before after
+  list_part : (before after : List ℕ) → PutsPrefix held file told before after → PutsPart words held holds told before after
   list_part before after p = list_due before after p.answer p.text p.due p.put
 
-  list_memory : (before after : List ℕ) → (after ≡ before) ⊎ PutsPrefix held file before after → PutsNothing words held holds before after ⊎ PutsPart words held holds before after
-  list_memory before after (inl same) = inl (no_log words held holds before after (job.List file) asked refl same)
+  list_memory : (before after : List ℕ) → SentNothing told before after ⊎ PutsPrefix held file told before after → PutsNothing words held holds told before after ⊎ PutsPart words held holds told before after
+  list_memory before after (inl same) = inl (no_log words held holds told before after (job.List file) asked refl same)
   list_memory before after (inr p) = inr (list_part before after p)
 
-  pub list_run : (before after : List ℕ) (answer : ListEnd) → IsAnswered held file before after answer → IsRun words held holds before after start_may_fail (list_status answer)
+  pub list_run : (before after : List ℕ) (answer : ListEnd) → IsAnswered held file told before after answer → IsRun words held holds told before after start_failed (list_status answer)
   list_run before after (list.Complete count) p = record { text = p.text; due = listed file count p.text asked p.due; put = p.put }
   list_run before after (list.Refused r) p = record { text = p.text; due = list_refused file r p.text asked p.due; put = p.put }
-  list_run before after list.Files p = inr (no_log words held holds before after (job.List file) asked refl p)
+  list_run before after list.Files p = inr (no_log words held holds told before after (job.List file) asked refl p)
   list_run before after list.Out p = list_part before after p
   list_run before after list.Memory p = list_memory before after p
 
-module _ (words : List (List ℕ)) (held holds : List ℕ → Option (List ℕ)) (start_may_fail : Type 0) (file : List ℕ) (asked : job_of words ≡ Some (job.Show file)) where
-  show_due : (before after : List ℕ) (answer : ShowEnd) (text : List ℕ) → IsShowDue held file answer text → AppendsPrefix text before after → PutsPart words held holds before after
+module _ (words : List (List ℕ)) (held holds : List ℕ → Option (List ℕ)) (told : Bool) (start_failed : Type 0) (file : List ℕ) (asked : job_of words ≡ Some (job.Show file)) where
+  show_due : (before after : List ℕ) (answer : ShowEnd) (text : List ℕ) → IsShowDue held file answer text → SentPart told text before after → PutsPart words held holds told before after
   show_due before after (show.Shown counts) text due put = record { answered = status.Complete; text = text; due = shown file counts text asked due; put = put }
   show_due before after (show.Refused r) text due put = record { answered = status.Refused; text = text; due = show_refused file r text asked due; put = put }
   show_due before after show.Files text due put = absurd due
   show_due before after show.Out text due put = absurd due
   show_due before after show.Memory text due put = absurd due
 
-  show_part : (before after : List ℕ) → ShowPutsPrefix held file before after → PutsPart words held holds before after
+  show_part : (before after : List ℕ) → ShowPutsPrefix held file told before after → PutsPart words held holds told before after
   show_part before after p = show_due before after p.answer p.text p.due p.put
 
-  show_memory : (before after : List ℕ) → (after ≡ before) ⊎ ShowPutsPrefix held file before after → PutsNothing words held holds before after ⊎ PutsPart words held holds before after
-  show_memory before after (inl same) = inl (no_log words held holds before after (job.Show file) asked refl same)
+  show_memory : (before after : List ℕ) → SentNothing told before after ⊎ ShowPutsPrefix held file told before after → PutsNothing words held holds told before after ⊎ PutsPart words held holds told before after
+  show_memory before after (inl same) = inl (no_log words held holds told before after (job.Show file) asked refl same)
   show_memory before after (inr p) = inr (show_part before after p)
 
-  pub show_run : (before after : List ℕ) (answer : ShowEnd) → IsShowAnswered held file before after answer → IsRun words held holds before after start_may_fail (show_status answer)
+  pub show_run : (before after : List ℕ) (answer : ShowEnd) → IsShowAnswered held file told before after answer → IsRun words held holds told before after start_failed (show_status answer)
   show_run before after (show.Shown counts) p = record { text = p.text; due = shown file counts p.text asked p.due; put = p.put }
   show_run before after (show.Refused r) p = record { text = p.text; due = show_refused file r p.text asked p.due; put = p.put }
-  show_run before after show.Files p = inr (no_log words held holds before after (job.Show file) asked refl p)
+  show_run before after show.Files p = inr (no_log words held holds told before after (job.Show file) asked refl p)
   show_run before after show.Out p = show_part before after p
   show_run before after show.Memory p = show_memory before after p
+
+module _ (words : List (List ℕ)) (held holds : List ℕ → Option (List ℕ)) (told : Bool) (start_failed : Type 0) (file list log : List ℕ) (asked : job_of words ≡ Some (job.Check file list log)) where
+  check_due : (before after : List ℕ) (answer : CheckEnd) (text : List ℕ) → IsCheckDue held file list log answer text → SentPart told text before after → PutsPart words held holds told before after
+  check_due before after (check.Yes (Complete count)) text due put = record { answered = status.Complete; text = text; due = checked file list log count text asked due; put = put }
+  check_due before after (check.Yes (Models most)) text due put = record { answered = status.Limit; text = text; due = checked_to_models file list log most text asked due; put = put }
+  check_due before after (check.Yes (Conflicts most)) text due put = record { answered = status.Limit; text = text; due = checked_to_conflicts file list log most text asked due; put = put }
+  check_due before after (check.No why) text due put = record { answered = status.No; text = text; due = not_shown file list log why text asked due; put = put }
+  check_due before after (check.Refused r) text due put = record { answered = status.Refused; text = text; due = check_refused file list log r text asked due; put = put }
+  check_due before after check.Files text due put = absurd due
+  check_due before after check.Out text due put = absurd due
+  check_due before after check.Memory text due put = absurd due
+
+  check_part : (before after : List ℕ) → CheckPutsPrefix held file list log told before after → PutsPart words held holds told before after
+  check_part before after p = check_due before after p.answer p.text p.due p.put
+
+  check_memory : (before after : List ℕ) → SentNothing told before after ⊎ CheckPutsPrefix held file list log told before after → PutsNothing words held holds told before after ⊎ PutsPart words held holds told before after
+  check_memory before after (inl same) = inl (no_log words held holds told before after (job.Check file list log) asked refl same)
+  check_memory before after (inr p) = inr (check_part before after p)
+
+  pub check_run : (before after : List ℕ) (answer : CheckEnd) → IsCheckAnswered held file list log told before after answer → IsRun words held holds told before after start_failed (check_status answer)
+  check_run before after (check.Yes (Complete count)) p = record { text = p.text; due = checked file list log count p.text asked p.due; put = p.put }
+  check_run before after (check.Yes (Models most)) p = record { text = p.text; due = checked_to_models file list log most p.text asked p.due; put = p.put }
+  check_run before after (check.Yes (Conflicts most)) p = record { text = p.text; due = checked_to_conflicts file list log most p.text asked p.due; put = p.put }
+  check_run before after (check.No why) p = record { text = p.text; due = not_shown file list log why p.text asked p.due; put = p.put }
+  check_run before after (check.Refused r) p = record { text = p.text; due = check_refused file list log r p.text asked p.due; put = p.put }
+  check_run before after check.Files p = inr (no_log words held holds told before after (job.Check file list log) asked refl p)
+  check_run before after check.Out p = check_part before after p
+  check_run before after check.Memory p = check_memory before after p
 
 -- ---- a search
 
@@ -113,10 +139,11 @@ same_solve words file log bounds file' log' bounds' is other =
 abbrev Held : (List ℕ → List ℕ → Bounds → Type 0) → Job → Type 0
 Held P (job.List file) = Unit {0}
 Held P (job.Solve file log bounds) = P file log bounds
+Held P (job.Check file list log) = Unit {0}
 Held P (job.Show file) = Unit {0}
 
-module _ (words : List (List ℕ)) (held holds : List ℕ → Option (List ℕ)) (start_may_fail : Type 0) (file log : List ℕ) (bounds : Bounds) (asked : job_of words ≡ Some (job.Solve file log bounds)) where
-  solve_due : (before after : List ℕ) (answer : SolveEnd) (text : List ℕ) → IsSolveDue held file log bounds answer text (holds log) → AppendsPrefix text before after → PutsPart words held holds before after
+module _ (words : List (List ℕ)) (held holds : List ℕ → Option (List ℕ)) (told : Bool) (start_failed : Type 0) (file log : List ℕ) (bounds : Bounds) (asked : job_of words ≡ Some (job.Solve file log bounds)) where
+  solve_due : (before after : List ℕ) (answer : SolveEnd) (text : List ℕ) → IsSolveDue held file log bounds answer text (holds log) → SentPart told text before after → PutsPart words held holds told before after
   solve_due before after (solve.Done (Complete count)) text due put = record { answered = status.Complete; text = text; due = solved file log bounds count text asked due; put = put }
   solve_due before after (solve.Done (Models most)) text due put = record { answered = status.Limit; text = text; due = limited_by_models file log bounds most text asked due; put = put }
   solve_due before after (solve.Done (Conflicts most)) text due put = record { answered = status.Limit; text = text; due = limited_by_conflicts file log bounds most text asked due; put = put }
@@ -137,25 +164,25 @@ module _ (words : List (List ℕ)) (held holds : List ℕ → Option (List ℕ))
       nothing_due None h = h
       nothing_due (Some logged) h = h
 
-  solve_part : (before after : List ℕ) → SolvePutsPrefix held file log bounds before after (holds log) → PutsPart words held holds before after
+  solve_part : (before after : List ℕ) → SolvePutsPrefix held file log bounds told before after (holds log) → PutsPart words held holds told before after
   solve_part before after p = solve_due before after p.answer p.text p.due p.put
 
-  solve_nothing : (before after : List ℕ) → solves.PutsNothing held file log bounds before after (holds log) → PutsNothing words held holds before after
+  solve_nothing : (before after : List ℕ) → solves.PutsNothing held file log bounds told before after (holds log) → PutsNothing words held holds told before after
   solve_nothing before after p = record {
     same = p.same;
     log_part = λ file' log' bounds' other.
         subst (Held (λ f l b. (holds l ≡ held l) ⊎ WritesPrefix held f l b (holds l))) (same_solve words file log bounds file' log' bounds' asked other) p.log_part;
   }
 
-  solve_files : (before after : List ℕ) → (start_may_fail × (after ≡ before)) ⊎ solves.PutsNothing held file log bounds before after (holds log) → (start_may_fail × (after ≡ before)) ⊎ PutsNothing words held holds before after
+  solve_files : (before after : List ℕ) → (start_failed × SentNothing told before after) ⊎ solves.PutsNothing held file log bounds told before after (holds log) → (start_failed × SentNothing told before after) ⊎ PutsNothing words held holds told before after
   solve_files before after (inl p) = inl p
   solve_files before after (inr p) = inr (solve_nothing before after p)
 
-  solve_memory : (before after : List ℕ) → solves.PutsNothing held file log bounds before after (holds log) ⊎ SolvePutsPrefix held file log bounds before after (holds log) → PutsNothing words held holds before after ⊎ PutsPart words held holds before after
+  solve_memory : (before after : List ℕ) → solves.PutsNothing held file log bounds told before after (holds log) ⊎ SolvePutsPrefix held file log bounds told before after (holds log) → PutsNothing words held holds told before after ⊎ PutsPart words held holds told before after
   solve_memory before after (inl p) = inl (solve_nothing before after p)
   solve_memory before after (inr p) = inr (solve_part before after p)
 
-  pub solve_run : (before after : List ℕ) (answer : SolveEnd) → IsSolveAnswered held file log bounds before after (holds log) start_may_fail answer → IsRun words held holds before after start_may_fail (solve_status answer)
+  pub solve_run : (before after : List ℕ) (answer : SolveEnd) → IsSolveAnswered held file log bounds told before after (holds log) start_failed answer → IsRun words held holds told before after start_failed (solve_status answer)
   solve_run before after (solve.Done (Complete count)) p = record { text = p.text; due = solved file log bounds count p.text asked p.due; put = p.put }
   solve_run before after (solve.Done (Models most)) p = record { text = p.text; due = limited_by_models file log bounds most p.text asked p.due; put = p.put }
   solve_run before after (solve.Done (Conflicts most)) p = record { text = p.text; due = limited_by_conflicts file log bounds most p.text asked p.due; put = p.put }
@@ -187,6 +214,16 @@ list_refused_end list.Files h = absurd (cc)
 list_refused_end list.Out h = absurd (cc)
 list_refused_end list.Memory h = absurd (cc)
 
+pub check_refused_end : (answer : CheckEnd) → check_status answer ≡ status.Refused → (r : Refusal) × (answer ≡ check.Refused r)
+check_refused_end (check.Yes (Complete count)) h = absurd (cc)
+check_refused_end (check.Yes (Models most)) h = absurd (cc)
+check_refused_end (check.Yes (Conflicts most)) h = absurd (cc)
+check_refused_end (check.No why) h = absurd (cc)
+check_refused_end (check.Refused r) h = (r, refl)
+check_refused_end check.Files h = absurd (cc)
+check_refused_end check.Out h = absurd (cc)
+check_refused_end check.Memory h = absurd (cc)
+
 pub show_refused_end : (answer : ShowEnd) → show_status answer ≡ status.Refused → (r : Refusal) × (answer ≡ show.Refused r)
 show_refused_end (show.Shown counts) h = absurd (cc)
 show_refused_end (show.Refused r) h = (r, refl)
@@ -214,6 +251,10 @@ one_job asked j k is other =
 -- a solve job with equal names
 pub renamed : (asked : Job) (file file' log log' : List ℕ) (bounds : Bounds) → asked ≡ job.Solve file log bounds → file' ≡ file → log' ≡ log → asked ≡ job.Solve file' log' bounds
 renamed asked file file' log log' bounds is same_file same_log = rw (same_file, same_log) is
+
+-- a check job with equal names
+pub renamed_check : (asked : Job) (file file' list list' log log' : List ℕ) → asked ≡ job.Check file list log → file' ≡ file → list' ≡ list → log' ≡ log → asked ≡ job.Check file' list' log'
+renamed_check asked file file' list list' log log' is same_file same_list same_log = rw (same_file, same_list, same_log) is
 
 -- ---- searches that can come to their end
 

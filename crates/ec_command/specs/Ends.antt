@@ -1,5 +1,7 @@
 -- The status of a command's end.
 use Rattle.ec_clause.specs.declared.ending.Ending.TheVariants.{Complete, Models, Conflicts}
+use Rattle.ec_engine.specs.declared.checking.CheckEnd.{CheckEnd}
+use Rattle.ec_engine.specs.declared.checking.CheckEnd.TheVariants as check
 use Rattle.ec_engine.specs.declared.listing.ListEnd.{ListEnd}
 use Rattle.ec_engine.specs.declared.listing.ListEnd.TheVariants as list
 use Rattle.ec_engine.specs.declared.showing.ShowEnd.{ShowEnd}
@@ -24,6 +26,16 @@ solve_status (solve.Refused refusal) = status.Refused
 solve_status solve.Files = status.FilesFault
 solve_status solve.Out = status.OutFault
 solve_status solve.Memory = status.NoMemory
+
+abbrev pub check_status : CheckEnd → Status
+check_status (check.Yes (Complete count)) = status.Complete
+check_status (check.Yes (Models most)) = status.Limit
+check_status (check.Yes (Conflicts most)) = status.Limit
+check_status (check.No why) = status.No
+check_status (check.Refused refusal) = status.Refused
+check_status check.Files = status.FilesFault
+check_status check.Out = status.OutFault
+check_status check.Memory = status.NoMemory
 
 abbrev pub show_status : ShowEnd → Status
 show_status (show.Shown counts) = status.Complete

@@ -1,16 +1,19 @@
 -- What a call of the program is to put and to write, and what it put and wrote.
-use Rattle.std.specs.Prelude.{ℕ, ◌≡◌, ◌⊎◌, List, ◌++◌, Option, Some, None, codes}
+use Rattle.std.specs.Prelude.{ℕ, ◌≡◌, ◌⊎◌, Bool, List, Option, Some, None, codes}
 use Rattle.ec_clause.specs.declared.ending.Ending.TheVariants.{Complete, Models, Conflicts}
 use Rattle.ec_logic.specs.Theory.{Theory}
 use Rattle.ec_edge.specs.Causes.{Rose}
-use Rattle.ec_edge.specs.Pieces.{AppendsPrefix}
 use Rattle.ec_engine.specs.Refusals.{refusal_line}
+use Rattle.ec_engine.specs.Sent.{Sent, SentPart, SentNothing}
 use Rattle.ec_syntax.specs.declared.book.Refusal.{Refusal}
 use Rattle.ec_solve.specs.declared.searching.Bounds.{Bounds}
+use Rattle.ec_evidence.specs.declared.finding.Reason.{Reason}
+use Rattle.ec_engine.specs.declared.checking.CheckEnd.TheVariants as check
 use Rattle.ec_engine.specs.declared.listing.ListEnd.TheVariants as list
 use Rattle.ec_engine.specs.declared.showing.Counts.{Counts}
 use Rattle.ec_engine.specs.declared.showing.ShowEnd.TheVariants as show
 use Rattle.ec_engine.specs.declared.solving.SolveEnd.TheVariants as solve
+use Rattle.ec_engine.specs.Check.{IsCheckDue}
 use Rattle.ec_engine.specs.List.{IsDue}
 use Rattle.ec_engine.specs.Show.{IsShowDue}
 use Rattle.ec_engine.specs.Solve.{CanComplete, IsSolvable, IsSolveDue, WritesPrefix}
@@ -20,9 +23,13 @@ use Rattle.ec_command.specs.declared.words.Job.{Job}
 use Rattle.ec_command.specs.declared.words.Job.TheVariants as job
 use Rattle.ec_command.specs.Words.{job_of}
 
+-- the text that is due for words that are no job
+abbrev pub usage_text : List ℕ
+usage_text = codes "usage\n"
+
 -- The status and the text that are due for these words, where the names held this, and what the log of a solve job is to hold then, among what the names hold.
 pub data IsDueFor (words : List (List ℕ)) (held holds : List ℕ → Option (List ℕ)) : Status → List ℕ → Type 0 where
-  usage : job_of words ≡ None → IsDueFor words held holds status.Usage (codes "usage\n")
+  usage : job_of words ≡ None → IsDueFor words held holds status.Usage usage_text
   listed : (file : List ℕ) (count : ℕ) (text : List ℕ) → job_of words ≡ Some (job.List file) → IsDue held file (list.Complete count) text
       → IsDueFor words held holds status.Complete text
   list_refused : (file : List ℕ) (refusal : Refusal) (text : List ℕ) → job_of words ≡ Some (job.List file) → IsDue held file (list.Refused refusal) text
@@ -35,52 +42,63 @@ pub data IsDueFor (words : List (List ℕ)) (held holds : List ℕ → Option (L
       → IsSolveDue held file log bounds (solve.Done (Conflicts most)) text (holds log) → IsDueFor words held holds status.Limit text
   solve_refused : (file log : List ℕ) (bounds : Bounds) (refusal : Refusal) (text : List ℕ) → job_of words ≡ Some (job.Solve file log bounds)
       → IsSolveDue held file log bounds (solve.Refused refusal) text (holds log) → IsDueFor words held holds status.Refused text
+  checked : (file list log : List ℕ) (count : ℕ) (text : List ℕ) → job_of words ≡ Some (job.Check file list log)
+      → IsCheckDue held file list log (check.Yes (Complete count)) text → IsDueFor words held holds status.Complete text
+  checked_to_models : (file list log : List ℕ) (most : ℕ) (text : List ℕ) → job_of words ≡ Some (job.Check file list log)
+      → IsCheckDue held file list log (check.Yes (Models most)) text → IsDueFor words held holds status.Limit text
+  checked_to_conflicts : (file list log : List ℕ) (most : ℕ) (text : List ℕ) → job_of words ≡ Some (job.Check file list log)
+      → IsCheckDue held file list log (check.Yes (Conflicts most)) text → IsDueFor words held holds status.Limit text
+  not_shown : (file list log : List ℕ) (why : Reason) (text : List ℕ) → job_of words ≡ Some (job.Check file list log)
+      → IsCheckDue held file list log (check.No why) text → IsDueFor words held holds status.No text
+  check_refused : (file list log : List ℕ) (refusal : Refusal) (text : List ℕ) → job_of words ≡ Some (job.Check file list log)
+      → IsCheckDue held file list log (check.Refused refusal) text → IsDueFor words held holds status.Refused text
   shown : (file : List ℕ) (counts : Counts) (text : List ℕ) → job_of words ≡ Some (job.Show file) → IsShowDue held file (show.Shown counts) text
       → IsDueFor words held holds status.Complete text
   show_refused : (file : List ℕ) (refusal : Refusal) (text : List ℕ) → job_of words ≡ Some (job.Show file) → IsShowDue held file (show.Refused refusal) text
       → IsDueFor words held holds status.Refused text
 
 -- The text that is due with the status was put, and the log of a solve job holds what is due with it.
-pub record Puts (words : List (List ℕ)) (held holds : List ℕ → Option (List ℕ)) (before after : List ℕ) (answered : Status) : Type 0 where
+pub record Puts (words : List (List ℕ)) (held holds : List ℕ → Option (List ℕ)) (told : Bool) (before after : List ℕ) (answered : Status) : Type 0 where
   pub text : List ℕ
   pub due : IsDueFor words held holds answered text
-  pub put : after ≡ before ++ text
+  pub put : Sent told text before after
 
 -- A prefix of a text that is due was put, and the log of a solve job holds what is due with that text.
-pub record PutsPart (words : List (List ℕ)) (held holds : List ℕ → Option (List ℕ)) (before after : List ℕ) : Type 0 where
+pub record PutsPart (words : List (List ℕ)) (held holds : List ℕ → Option (List ℕ)) (told : Bool) (before after : List ℕ) : Type 0 where
   pub answered : Status
   pub text : List ℕ
   pub due : IsDueFor words held holds answered text
-  pub put : AppendsPrefix text before after
+  pub put : SentPart told text before after
 
 -- Nothing was put, and the log of a solve job holds what it held, or a prefix of a log that is due.
-pub record PutsNothing (words : List (List ℕ)) (held holds : List ℕ → Option (List ℕ)) (before after : List ℕ) : Type 0 where
-  pub same : after ≡ before
+pub record PutsNothing (words : List (List ℕ)) (held holds : List ℕ → Option (List ℕ)) (told : Bool) (before after : List ℕ) : Type 0 where
+  pub same : SentNothing told before after
   pub log_part : (file log : List ℕ) (bounds : Bounds) → job_of words ≡ Some (job.Solve file log bounds) → (holds log ≡ held log) ⊎ WritesPrefix held file log bounds (holds log)
 
 -- The line of a refusal was put, and one that says that a file isn't there only where the absences rose.
-pub record PutsRefusal (before after : List ℕ) (absences_before absences_after : ℕ) : Type 0 where
+pub record PutsRefusal (told : Bool) (before after : List ℕ) (absences_before absences_after : ℕ) : Type 0 where
   pub refusal : Refusal
-  pub put : after ≡ before ++ refusal_line refusal
+  pub put : Sent told (refusal_line refusal) before after
   pub absent : refusal.code ≡ 1 → Rose absences_before absences_after
 
 -- the log of a job, if it has one
 abbrev pub log_of : Option Job → Option (List ℕ)
 log_of (Some (job.Solve file log bounds)) = Some log
 log_of (Some (job.List file)) = None
+log_of (Some (job.Check file list log)) = None
 log_of (Some (job.Show file)) = None
 log_of None = None
 
--- the answers to words that are no job
-abbrev pub IsNoJobAnswer : Status → Type 0
-IsNoJobAnswer status.Complete = ⊥
-IsNoJobAnswer status.Limit = ⊥
-IsNoJobAnswer status.Refused = ⊥
-IsNoJobAnswer status.No = ⊥
-IsNoJobAnswer status.FilesFault = ⊥
-IsNoJobAnswer status.OutFault = Unit {0}
-IsNoJobAnswer status.Usage = Unit {0}
-IsNoJobAnswer status.NoMemory = Unit {0}
+-- The answers to words that are no job, and what was put with each, whatever the files hold.
+abbrev pub IsNoJobAnswer : Bool → List ℕ → List ℕ → Status → Type 0
+IsNoJobAnswer told before after status.Complete = ⊥
+IsNoJobAnswer told before after status.Limit = ⊥
+IsNoJobAnswer told before after status.Refused = ⊥
+IsNoJobAnswer told before after status.No = ⊥
+IsNoJobAnswer told before after status.FilesFault = ⊥
+IsNoJobAnswer told before after status.OutFault = SentPart told usage_text before after
+IsNoJobAnswer told before after status.Usage = Sent told usage_text before after
+IsNoJobAnswer told before after status.NoMemory = SentPart told usage_text before after
 
 -- the whole list was put, unless something failed
 abbrev pub IsWholeAnswer : Status → Type 0
@@ -97,13 +115,13 @@ IsWholeAnswer status.NoMemory = Unit {0}
 pub record Completes (words : List (List ℕ)) (held : List ℕ → Option (List ℕ)) (answered : Status) : Type 0 where
   pub whole : (file log : List ℕ) (bounds : Bounds) (theory : Theory) → job_of words ≡ Some (job.Solve file log bounds) → IsSolvable held file log bounds theory → CanComplete bounds theory → IsWholeAnswer answered
 
--- What was put and written, by the status. Where the start of a file may have failed, nothing is said of the log.
-abbrev pub IsRun : List (List ℕ) → (List ℕ → Option (List ℕ)) → (List ℕ → Option (List ℕ)) → List ℕ → List ℕ → Type 0 → Status → Type 0
-IsRun words held holds before after start_may_fail status.Complete = Puts words held holds before after status.Complete
-IsRun words held holds before after start_may_fail status.Limit = Puts words held holds before after status.Limit
-IsRun words held holds before after start_may_fail status.Refused = Puts words held holds before after status.Refused
-IsRun words held holds before after start_may_fail status.No = ⊥
-IsRun words held holds before after start_may_fail status.FilesFault = (start_may_fail × (after ≡ before)) ⊎ PutsNothing words held holds before after
-IsRun words held holds before after start_may_fail status.OutFault = PutsPart words held holds before after
-IsRun words held holds before after start_may_fail status.Usage = Puts words held holds before after status.Usage
-IsRun words held holds before after start_may_fail status.NoMemory = PutsNothing words held holds before after ⊎ PutsPart words held holds before after
+-- The status that is due for these words and what the names held, what the log of a solve job holds with it, and what was put where the sink tells its bytes. Where a start failed, nothing is said of the log.
+abbrev pub IsRun : List (List ℕ) → (List ℕ → Option (List ℕ)) → (List ℕ → Option (List ℕ)) → Bool → List ℕ → List ℕ → Type 0 → Status → Type 0
+IsRun words held holds told before after start_failed status.Complete = Puts words held holds told before after status.Complete
+IsRun words held holds told before after start_failed status.Limit = Puts words held holds told before after status.Limit
+IsRun words held holds told before after start_failed status.Refused = Puts words held holds told before after status.Refused
+IsRun words held holds told before after start_failed status.No = Puts words held holds told before after status.No
+IsRun words held holds told before after start_failed status.FilesFault = (start_failed × SentNothing told before after) ⊎ PutsNothing words held holds told before after
+IsRun words held holds told before after start_failed status.OutFault = PutsPart words held holds told before after
+IsRun words held holds told before after start_failed status.Usage = Puts words held holds told before after status.Usage
+IsRun words held holds told before after start_failed status.NoMemory = PutsNothing words held holds told before after ⊎ PutsPart words held holds told before after

@@ -56,9 +56,14 @@ bounds_in pairs = if list_all (λ pair. is_option pair.0) pairs
 abbrev pub bounds_of : List (List ℕ) → Option Bounds
 bounds_of options = option_and_then bounds_in (pairs_of options)
 
+-- the job of checking a list and a log of a file, if the words are those of `check`
+abbrev pub check_of : List ℕ → List ℕ → List ℕ → List (List ℕ) → Option Job
+check_of command file list (log ∷ []) = if bytes_eq command (codes "check") then Some (job.Check file list log) else None
+check_of command file list _ = None
+
 abbrev pub job_of : List (List ℕ) → Option Job
 job_of (command ∷ file ∷ []) = if bytes_eq command (codes "list") then Some (job.List file) else if bytes_eq command (codes "show") then Some (job.Show file) else None
-job_of (command ∷ file ∷ log ∷ options) = if bytes_eq command (codes "solve") then option_map (λ bounds. job.Solve file log bounds) (bounds_of options) else None
+job_of (command ∷ file ∷ log ∷ options) = if bytes_eq command (codes "solve") then option_map (λ bounds. job.Solve file log bounds) (bounds_of options) else check_of command file log options
 job_of _ = None
 
 -- why there is no job
@@ -70,4 +75,5 @@ IsNoJob words fault.Memory = Unit {0}
 abbrev pub HasBounds : Job → Type 0
 HasBounds (job.List file) = Unit {0}
 HasBounds (job.Solve file log bounds) = AreBounds bounds
+HasBounds (job.Check file list log) = Unit {0}
 HasBounds (job.Show file) = Unit {0}

@@ -1,10 +1,10 @@
 //! The status of each command's end.
 ghost use Rattle.std.specs.Prelude.{◌≡◌};
-ghost use Rattle.ec_command.specs.Ends.{list_status, show_status, solve_status};
+ghost use Rattle.ec_command.specs.Ends.{check_status, list_status, show_status, solve_status};
 
 use crate::status::Status;
 use ec_clause::ending::Ending;
-use ec_engine::{ListEnd, ShowEnd, SolveEnd};
+use ec_engine::{CheckEnd, ListEnd, ShowEnd, SolveEnd};
 
 /// The status of the end of `list`.
 pub fn list_status(end: &ListEnd) -> Status
@@ -30,6 +30,21 @@ pub fn solve_status(end: &SolveEnd) -> Status
         SolveEnd::Files => Status::FilesFault,
         SolveEnd::Out => Status::OutFault,
         SolveEnd::Memory => Status::NoMemory,
+    }
+}
+
+/// The status of the end of `check`.
+pub fn check_status(end: &CheckEnd) -> Status
+    ensures { result ≡ check_status end.now }
+{
+    match end {
+        CheckEnd::Yes(Ending::Complete(_)) => Status::Complete,
+        CheckEnd::Yes(Ending::Models(_) | Ending::Conflicts(_)) => Status::Limit,
+        CheckEnd::No(_) => Status::No,
+        CheckEnd::Refused(_) => Status::Refused,
+        CheckEnd::Files => Status::FilesFault,
+        CheckEnd::Out => Status::OutFault,
+        CheckEnd::Memory => Status::NoMemory,
     }
 }
 

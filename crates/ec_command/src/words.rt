@@ -1,7 +1,7 @@
 //! The words of the command line.
 ghost use Rattle.std.specs.Prelude.{◌≡◌, Some, None, map, IfOk, MatchResult};
 ghost use Rattle.std.specs.String.{string_bytes};
-ghost use Rattle.ec_command.specs.Words.{job_of, HasBounds, IsNoJob};
+ghost use Rattle.ec_command.specs.Words.{check_of, job_of, HasBounds, IsNoJob};
 
 use crate::options::read_bounds;
 use ec_engine::Bounds;
@@ -20,6 +20,12 @@ pub enum Job {
         file: Word,
         log: Word,
         bounds: Bounds,
+    },
+    /// Whether a list is one of a file's narratives, and a log shows that it ends as it says.
+    Check {
+        file: Word,
+        list: Word,
+        log: Word,
     },
     /// How large the theory of a file is.
     Show {
@@ -43,8 +49,31 @@ fn name(alloc: Global, word: &str) -> Result<Word, JobFault>
     Word::of(alloc, word.as_bytes()).map_err(|_| JobFault::Memory)
 }
 
+/// The job of the words of `check`: a command, a file, a list, and the words behind them, which are the log alone.
+fn read_check(
+    alloc: Global,
+    command: &str,
+    file: &str,
+    list: &str,
+    rest: &[String],
+) -> Result<Job, JobFault>
+    ensures job { MatchResult result (λ job. check_of command.now file.now list.now (map string_bytes rest.now) ≡ Some job)
+        (λ fault. fault ≡ JobFault.Usage → check_of command.now file.now list.now (map string_bytes rest.now) ≡ None) }
+    ensures bounds { IfOk result (λ job. HasBounds job) }
+{
+    match rest {
+        [log] if command == "check" => Ok(Job::Check {
+            file: name(alloc, file)?,
+            list: name(alloc, list)?,
+            log: name(alloc, log)?,
+        }),
+        _ => Err(JobFault::Usage),
+    }
+}
+
 /// The job of the words behind the program's name: `list FILE`, `solve FILE LOG` and then
-/// `--models N` and `--conflicts N`, each at most once and in any order, or `show FILE`.
+/// `--models N` and `--conflicts N`, each at most once and in any order, `check FILE OUT LOG`, or
+/// `show FILE`.
 ///
 /// The names of files are taken as they stand.
 pub fn read_words(alloc: Global, words: &[String]) -> Result<Job, JobFault>
@@ -66,6 +95,7 @@ pub fn read_words(alloc: Global, words: &[String]) -> Result<Job, JobFault>
                 bounds,
             })
         }
+        [command, file, list, rest @ ..] => read_check(alloc, command, file, list, rest),
         _ => Err(JobFault::Usage),
     }
 }

@@ -3,3 +3,5 @@ pub mod Endings
 pub mod Atoms
 pub mod Words
 pub mod Searching
+pub mod Released
+pub mod Finding

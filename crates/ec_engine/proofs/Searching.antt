@@ -23,7 +23,8 @@ use Rattle.ec_syntax.specs.declared.book.Refusal.{Refusal}
 use Rattle.ec_solve.proofs.FoundLaws.{comes_to_its_end}
 use Rattle.ec_engine.proofs.Atoms.{visible_is}
 use Rattle.ec_engine.specs.Answers.{end_of}
-use Rattle.ec_engine.specs.Solve.{CanComplete, IsSolvable, IsSolveDue, IsSolveAnswered, IsWholeUnlessFailed, PutsNothing, list_ending}
+use Rattle.ec_engine.specs.Solve.{CanComplete, IsSolvable, IsSolveDue, IsSolveAnswered, IsWholeUnlessFailed, PutsNothing}
+use Rattle.ec_listing.specs.Endings.{list_ending}
 use Rattle.ec_engine.specs.declared.solving.SolveEnd.{SolveEnd}
 use Rattle.ec_engine.specs.declared.solving.SolveEnd.TheVariants as end
 
@@ -45,14 +46,14 @@ module _ (held : List ℕ → Option (List ℕ)) (file log : List ℕ) (bounds :
       (record { theory = theory; solvable = solvable; truths = truths; shown_by = shown_by; found = found; is = refl; logs = refl })
 
   -- nothing was put, and the log holds what it held
-  pub nothing_done : (bytes : List ℕ) (written : Option (List ℕ)) → written ≡ held log → PutsNothing held file log bounds bytes bytes written
-  nothing_done bytes written stays = record { same = refl; log_part = inl stays }
+  pub nothing_done : (told : Bool) (bytes : List ℕ) (written : Option (List ℕ)) → written ≡ held log → PutsNothing held file log bounds told bytes bytes written
+  nothing_done told bytes written stays = record { same = λ _. refl; log_part = inl stays }
 
   -- nothing was put, and a part of the log was written
-  part_done : (theory : Theory) (truths : List (List Bool)) (ending : Ending) (shown_by : Log) (bytes : List ℕ) (written : Option (List ℕ)) → IsSolvable held file log bounds theory → IsFound theory bounds truths ending shown_by
-      → AppendsHeldPrefix (log_text shown_by ending) (Some []) written → PutsNothing held file log bounds bytes bytes written
-  part_done theory truths ending shown_by bytes written solvable found part = record {
-    same = refl;
+  part_done : (theory : Theory) (truths : List (List Bool)) (ending : Ending) (shown_by : Log) (told : Bool) (bytes : List ℕ) (written : Option (List ℕ)) → IsSolvable held file log bounds theory
+      → IsFound theory bounds truths ending shown_by → AppendsHeldPrefix (log_text shown_by ending) (Some []) written → PutsNothing held file log bounds told bytes bytes written
+  part_done theory truths ending shown_by told bytes written solvable found part = record {
+    same = λ _. refl;
     log_part = inr (record {
       ending = ending;
       text = list_text theory.signature truths (list_ending ending);
@@ -62,16 +63,17 @@ module _ (held : List ℕ → Option (List ℕ)) (file log : List ℕ) (bounds :
     });
   }
 
-  pub write_failed : (may_fail : Type 0) (theory : Theory) (truths : List (List Bool)) (ending : Ending) (shown_by : Log) (bytes : List ℕ) (written : Option (List ℕ)) → IsSolvable held file log bounds theory
-      → IsFound theory bounds truths ending shown_by → may_fail ⊎ AppendsHeldPrefix (log_text shown_by ending) (Some []) written → IsSolveAnswered held file log bounds bytes bytes written may_fail end.Files
-  write_failed may_fail theory truths ending shown_by bytes written solvable found (inl failed) = inl (failed, refl)
-  write_failed may_fail theory truths ending shown_by bytes written solvable found (inr part) = inr (part_done theory truths ending shown_by bytes written solvable found part)
+  pub write_failed : (start_failed appends : Type 0) (theory : Theory) (truths : List (List Bool)) (ending : Ending) (shown_by : Log) (told : Bool) (bytes : List ℕ) (written : Option (List ℕ))
+      → IsSolvable held file log bounds theory → IsFound theory bounds truths ending shown_by → (appends → AppendsHeldPrefix (log_text shown_by ending) (Some []) written) → start_failed ⊎ appends
+      → IsSolveAnswered held file log bounds told bytes bytes written start_failed end.Files
+  write_failed start_failed appends theory truths ending shown_by told bytes written solvable found part (inl failed) = inl (failed, λ _. refl)
+  write_failed start_failed appends theory truths ending shown_by told bytes written solvable found part (inr later) = inr (part_done theory truths ending shown_by told bytes written solvable found (part later))
 
-  pub write_lacked : (may_fail : Type 0) (theory : Theory) (truths : List (List Bool)) (ending : Ending) (shown_by : Log) (bytes : List ℕ) (between written : List ℕ → Option (List ℕ)) → IsSolvable held file log bounds theory
-      → IsFound theory bounds truths ending shown_by → AllStay held between → AllStay between written ⊎ AppendsHeldPrefix (log_text shown_by ending) (Some []) (written log)
-      → IsSolveAnswered held file log bounds bytes bytes (written log) may_fail end.Memory
-  write_lacked may_fail theory truths ending shown_by bytes between written solvable found before (inl stays) = inl (nothing_done bytes (written log) (stays log ∙ before log))
-  write_lacked may_fail theory truths ending shown_by bytes between written solvable found before (inr part) = inl (part_done theory truths ending shown_by bytes (written log) solvable found part)
+  pub write_lacked : (start_failed : Type 0) (theory : Theory) (truths : List (List Bool)) (ending : Ending) (shown_by : Log) (told : Bool) (bytes : List ℕ) (between written : List ℕ → Option (List ℕ))
+      → IsSolvable held file log bounds theory → IsFound theory bounds truths ending shown_by → AllStay held between
+      → AllStay between written ⊎ AppendsHeldPrefix (log_text shown_by ending) (Some []) (written log) → IsSolveAnswered held file log bounds told bytes bytes (written log) start_failed end.Memory
+  write_lacked start_failed theory truths ending shown_by told bytes between written solvable found before (inl stays) = inl (nothing_done told bytes (written log) (stays log ∙ before log))
+  write_lacked start_failed theory truths ending shown_by told bytes between written solvable found before (inr part) = inl (part_done theory truths ending shown_by told bytes (written log) solvable found part)
 
 -- a search that can come to its end does so
 pub completes_found : (theory : Theory) (bounds : Bounds) (truths : List (List Bool)) (ending : Ending) (shown_by : Log) → IsFound theory bounds truths ending shown_by → CanComplete bounds theory → is_complete ending ≡ true

@@ -1,6 +1,9 @@
 pub mod Refusals
+pub mod Sent
 pub mod List
 pub mod Answers
 pub mod Narratives
 pub mod Solve
 pub mod Show
+pub mod PartTexts
+pub mod Check

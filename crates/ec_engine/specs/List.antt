@@ -1,12 +1,12 @@
 -- What `list` is to put for what the files hold.
-use Rattle.std.specs.Prelude.{ℕ, ◌≡◌, ◌≤◌, ◌<◌, Bool, codes, List, ◌++◌, length, Option, Ok, Err, ◌⊎◌}
+use Rattle.std.specs.Prelude.{ℕ, ◌≡◌, ◌≤◌, ◌<◌, Bool, codes, List, length, Option, Ok, Err, ◌⊎◌}
 use Rattle.ec_logic.specs.Listing.{complete, list_text, AreTruths}
 use Rattle.ec_logic.specs.Theory.{Theory}
-use Rattle.ec_edge.specs.Pieces.{AppendsPrefix}
 use Rattle.ec_syntax.specs.declared.book.Refusal.{Refusal}
 use Rattle.ec_load.specs.Refusals.{refused, in_file}
 use Rattle.ec_accept.specs.Accepted.{IsAccepted, visible_count}
 use Rattle.ec_engine.specs.Refusals.{refusal_line}
+use Rattle.ec_engine.specs.Sent.{Sent, SentPart, SentNothing}
 use Rattle.ec_engine.specs.declared.listing.ListEnd.{ListEnd}
 use Rattle.ec_engine.specs.declared.listing.ListEnd.TheVariants as end
 
@@ -34,22 +34,22 @@ IsDue held file end.Out text = ⊥
 IsDue held file end.Memory text = ⊥
 
 -- a prefix of a text that is due was put
-pub record PutsPrefix (held : List ℕ → Option (List ℕ)) (file before after : List ℕ) : Type 0 where
+pub record PutsPrefix (held : List ℕ → Option (List ℕ)) (file : List ℕ) (told : Bool) (before after : List ℕ) : Type 0 where
   pub answer : ListEnd
   pub text : List ℕ
   pub due : IsDue held file answer text
-  pub put : AppendsPrefix text before after
+  pub put : SentPart told text before after
 
 -- the text that is due with the answer was put
-pub record PutsDue (held : List ℕ → Option (List ℕ)) (file before after : List ℕ) (answer : ListEnd) : Type 0 where
+pub record PutsDue (held : List ℕ → Option (List ℕ)) (file : List ℕ) (told : Bool) (before after : List ℕ) (answer : ListEnd) : Type 0 where
   pub text : List ℕ
   pub due : IsDue held file answer text
-  pub put : after ≡ before ++ text
+  pub put : Sent told text before after
 
--- What was put, by the answer.
-abbrev pub IsAnswered : (List ℕ → Option (List ℕ)) → List ℕ → List ℕ → List ℕ → ListEnd → Type 0
-IsAnswered held file before after (end.Complete count) = PutsDue held file before after (end.Complete count)
-IsAnswered held file before after (end.Refused r) = PutsDue held file before after (end.Refused r)
-IsAnswered held file before after end.Files = after ≡ before
-IsAnswered held file before after end.Out = PutsPrefix held file before after
-IsAnswered held file before after end.Memory = (after ≡ before) ⊎ PutsPrefix held file before after
+-- The answer that is due for what the files hold, and what was put with it where the sink tells its bytes.
+abbrev pub IsAnswered : (List ℕ → Option (List ℕ)) → List ℕ → Bool → List ℕ → List ℕ → ListEnd → Type 0
+IsAnswered held file told before after (end.Complete count) = PutsDue held file told before after (end.Complete count)
+IsAnswered held file told before after (end.Refused r) = PutsDue held file told before after (end.Refused r)
+IsAnswered held file told before after end.Files = SentNothing told before after
+IsAnswered held file told before after end.Out = PutsPrefix held file told before after
+IsAnswered held file told before after end.Memory = SentNothing told before after ⊎ PutsPrefix held file told before after

@@ -1,12 +1,12 @@
 -- What `show` is to put for what the files hold.
-use Rattle.std.specs.Prelude.{ℕ, ◌≡◌, ◌⊎◌, codes, decimal, List, ◌++◌, length, Option, Ok, Err}
+use Rattle.std.specs.Prelude.{ℕ, ◌≡◌, ◌⊎◌, Bool, codes, decimal, List, ◌++◌, length, Option, Ok, Err}
 use Rattle.ec_logic.specs.Narrative.{line}
 use Rattle.ec_logic.specs.Theory.{Theory}
-use Rattle.ec_edge.specs.Pieces.{AppendsPrefix}
 use Rattle.ec_weight.specs.Weight.{weight_of}
 use Rattle.ec_accept.specs.Accepted.{IsAccepted, HasFiles, visible_count}
 use Rattle.ec_cnf.specs.List.{clauses_of}
 use Rattle.ec_engine.specs.Refusals.{refusal_line}
+use Rattle.ec_engine.specs.Sent.{Sent, SentPart, SentNothing}
 use Rattle.ec_engine.specs.declared.showing.Counts.{Counts}
 use Rattle.ec_engine.specs.declared.showing.ShowEnd.{ShowEnd}
 use Rattle.ec_engine.specs.declared.showing.ShowEnd.TheVariants as end
@@ -46,22 +46,22 @@ IsShowDue held file end.Out text = ⊥
 IsShowDue held file end.Memory text = ⊥
 
 -- the text that is due with the answer was put
-pub record ShowPutsDue (held : List ℕ → Option (List ℕ)) (file before after : List ℕ) (answer : ShowEnd) : Type 0 where
+pub record ShowPutsDue (held : List ℕ → Option (List ℕ)) (file : List ℕ) (told : Bool) (before after : List ℕ) (answer : ShowEnd) : Type 0 where
   pub text : List ℕ
   pub due : IsShowDue held file answer text
-  pub put : after ≡ before ++ text
+  pub put : Sent told text before after
 
 -- a prefix of a text that is due was put
-pub record ShowPutsPrefix (held : List ℕ → Option (List ℕ)) (file before after : List ℕ) : Type 0 where
+pub record ShowPutsPrefix (held : List ℕ → Option (List ℕ)) (file : List ℕ) (told : Bool) (before after : List ℕ) : Type 0 where
   pub answer : ShowEnd
   pub text : List ℕ
   pub due : IsShowDue held file answer text
-  pub put : AppendsPrefix text before after
+  pub put : SentPart told text before after
 
--- What was put, by the answer.
-abbrev pub IsShowAnswered : (List ℕ → Option (List ℕ)) → List ℕ → List ℕ → List ℕ → ShowEnd → Type 0
-IsShowAnswered held file before after (end.Shown counts) = ShowPutsDue held file before after (end.Shown counts)
-IsShowAnswered held file before after (end.Refused r) = ShowPutsDue held file before after (end.Refused r)
-IsShowAnswered held file before after end.Files = after ≡ before
-IsShowAnswered held file before after end.Out = ShowPutsPrefix held file before after
-IsShowAnswered held file before after end.Memory = (after ≡ before) ⊎ ShowPutsPrefix held file before after
+-- The answer that is due for what the files hold, and what was put with it where the sink tells its bytes.
+abbrev pub IsShowAnswered : (List ℕ → Option (List ℕ)) → List ℕ → Bool → List ℕ → List ℕ → ShowEnd → Type 0
+IsShowAnswered held file told before after (end.Shown counts) = ShowPutsDue held file told before after (end.Shown counts)
+IsShowAnswered held file told before after (end.Refused r) = ShowPutsDue held file told before after (end.Refused r)
+IsShowAnswered held file told before after end.Files = SentNothing told before after
+IsShowAnswered held file told before after end.Out = ShowPutsPrefix held file told before after
+IsShowAnswered held file told before after end.Memory = SentNothing told before after ⊎ ShowPutsPrefix held file told before after

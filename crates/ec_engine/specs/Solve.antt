@@ -1,11 +1,11 @@
 -- What `solve` is to put and to write for what the files hold.
-use Rattle.std.specs.Prelude.{ℕ, ◌≡◌, ◌≤◌, ◌<◌, ◌*◌, ◌^◌, ◌⊎◌, Bool, codes, List, [], ◌++◌, length, Contains, Option, Some, None, Ok, Err}
-use Rattle.ec_logic.specs.Listing as listing
+use Rattle.std.specs.Prelude.{ℕ, ◌≡◌, ◌≤◌, ◌<◌, ◌*◌, ◌^◌, ◌⊎◌, Bool, codes, List, [], length, Contains, Option, Some, None, Ok, Err}
 use Rattle.ec_logic.specs.Listing.{list_text, AreTruths}
 use Rattle.ec_logic.specs.Theory.{Theory}
 use Rattle.ec_clause.specs.declared.ending.Ending.{Ending}
 use Rattle.ec_clause.specs.declared.ending.Ending.TheVariants.{Complete, Models, Conflicts}
-use Rattle.ec_edge.specs.Pieces.{AppendsPrefix, AppendsHeldPrefix}
+use Rattle.ec_listing.specs.Endings.{list_ending}
+use Rattle.ec_edge.specs.Pieces.{AppendsHeldPrefix}
 use Rattle.ec_log.specs.Log.{Log, log_text}
 use Rattle.ec_syntax.specs.declared.book.Refusal.{Refusal}
 use Rattle.ec_load.specs.Refusals.{refused, in_file}
@@ -14,6 +14,7 @@ use Rattle.ec_cnf.specs.List.{clauses_of}
 use Rattle.ec_solve.specs.declared.searching.Bounds.{Bounds}
 use Rattle.ec_solve.specs.Found.{IsFound}
 use Rattle.ec_engine.specs.Refusals.{refusal_line}
+use Rattle.ec_engine.specs.Sent.{Sent, SentPart, SentNothing}
 use Rattle.ec_engine.specs.declared.solving.SolveEnd.{SolveEnd}
 use Rattle.ec_engine.specs.declared.solving.SolveEnd.TheVariants as end
 
@@ -23,12 +24,6 @@ pub record AreBounds (bounds : Bounds) : Type 0 where
   pub few_models : bounds.models ≤ 10000
   pub one_conflict : 1 ≤ bounds.conflicts
   pub few_conflicts : bounds.conflicts ≤ 2000000000
-
--- the end of a list that the end of a search is
-abbrev pub list_ending : Ending → listing.Ending
-list_ending (Complete n) = listing.complete n
-list_ending (Models n) = listing.models n
-list_ending (Conflicts n) = listing.conflicts n
 
 -- The file is accepted, so many of its truths can be held, and the log is none of the files that are read.
 pub record IsSolvable (held : List ℕ → Option (List ℕ)) (file log : List ℕ) (bounds : Bounds) (theory : Theory) : Type 0 where
@@ -65,17 +60,17 @@ IsSolveDue held file log bounds end.Out text written = ⊥
 IsSolveDue held file log bounds end.Memory text written = ⊥
 
 -- The text that is due with the answer was put, and the log holds what is due.
-pub record SolvePutsDue (held : List ℕ → Option (List ℕ)) (file log : List ℕ) (bounds : Bounds) (before after : List ℕ) (written : Option (List ℕ)) (answer : SolveEnd) : Type 0 where
+pub record SolvePutsDue (held : List ℕ → Option (List ℕ)) (file log : List ℕ) (bounds : Bounds) (told : Bool) (before after : List ℕ) (written : Option (List ℕ)) (answer : SolveEnd) : Type 0 where
   pub text : List ℕ
   pub due : IsSolveDue held file log bounds answer text written
-  pub put : after ≡ before ++ text
+  pub put : Sent told text before after
 
 -- A prefix of a text that is due was put, and the log holds what is due with it.
-pub record SolvePutsPrefix (held : List ℕ → Option (List ℕ)) (file log : List ℕ) (bounds : Bounds) (before after : List ℕ) (written : Option (List ℕ)) : Type 0 where
+pub record SolvePutsPrefix (held : List ℕ → Option (List ℕ)) (file log : List ℕ) (bounds : Bounds) (told : Bool) (before after : List ℕ) (written : Option (List ℕ)) : Type 0 where
   pub answer : SolveEnd
   pub text : List ℕ
   pub due : IsSolveDue held file log bounds answer text written
-  pub put : AppendsPrefix text before after
+  pub put : SentPart told text before after
 
 -- The log holds a prefix of one that is due.
 pub record WritesPrefix (held : List ℕ → Option (List ℕ)) (file log : List ℕ) (bounds : Bounds) (written : Option (List ℕ)) : Type 0 where
@@ -86,17 +81,17 @@ pub record WritesPrefix (held : List ℕ → Option (List ℕ)) (file log : List
   pub part : AppendsHeldPrefix logged (Some []) written
 
 -- Nothing was put, and the log holds what it held, or a prefix of one that is due.
-pub record PutsNothing (held : List ℕ → Option (List ℕ)) (file log : List ℕ) (bounds : Bounds) (before after : List ℕ) (written : Option (List ℕ)) : Type 0 where
-  pub same : after ≡ before
+pub record PutsNothing (held : List ℕ → Option (List ℕ)) (file log : List ℕ) (bounds : Bounds) (told : Bool) (before after : List ℕ) (written : Option (List ℕ)) : Type 0 where
+  pub same : SentNothing told before after
   pub log_part : (written ≡ held log) ⊎ WritesPrefix held file log bounds written
 
--- What was put and written, by the answer. Where the start of a file may have failed, nothing is said of the log.
-abbrev pub IsSolveAnswered : (List ℕ → Option (List ℕ)) → List ℕ → List ℕ → Bounds → List ℕ → List ℕ → Option (List ℕ) → Type 0 → SolveEnd → Type 0
-IsSolveAnswered held file log bounds before after written start_may_fail (end.Done ending) = SolvePutsDue held file log bounds before after written (end.Done ending)
-IsSolveAnswered held file log bounds before after written start_may_fail (end.Refused r) = SolvePutsDue held file log bounds before after written (end.Refused r)
-IsSolveAnswered held file log bounds before after written start_may_fail end.Files = (start_may_fail × (after ≡ before)) ⊎ PutsNothing held file log bounds before after written
-IsSolveAnswered held file log bounds before after written start_may_fail end.Out = SolvePutsPrefix held file log bounds before after written
-IsSolveAnswered held file log bounds before after written start_may_fail end.Memory = PutsNothing held file log bounds before after written ⊎ SolvePutsPrefix held file log bounds before after written
+-- The answer that is due for what the files hold, what the log holds with it, and what was put where the sink tells its bytes. Where a start failed, nothing is said of the log.
+abbrev pub IsSolveAnswered : (List ℕ → Option (List ℕ)) → List ℕ → List ℕ → Bounds → Bool → List ℕ → List ℕ → Option (List ℕ) → Type 0 → SolveEnd → Type 0
+IsSolveAnswered held file log bounds told before after written start_failed (end.Done ending) = SolvePutsDue held file log bounds told before after written (end.Done ending)
+IsSolveAnswered held file log bounds told before after written start_failed (end.Refused r) = SolvePutsDue held file log bounds told before after written (end.Refused r)
+IsSolveAnswered held file log bounds told before after written start_failed end.Files = (start_failed × SentNothing told before after) ⊎ PutsNothing held file log bounds told before after written
+IsSolveAnswered held file log bounds told before after written start_failed end.Out = SolvePutsPrefix held file log bounds told before after written
+IsSolveAnswered held file log bounds told before after written start_failed end.Memory = PutsNothing held file log bounds told before after written ⊎ SolvePutsPrefix held file log bounds told before after written
 
 -- The search can come to its end within the bounds: the truths are fewer than the one, and the clauses of the variables than the other.
 pub record CanComplete (bounds : Bounds) (theory : Theory) : Type 0 where

@@ -1,5 +1,5 @@
 //! The command `list`.
-ghost use Rattle.std.specs.Prelude.{◌≡◌, ◌<◌, ◌^◌, ◌++◌, length, List, ℕ, Option, Ok, IsTrue};
+ghost use Rattle.std.specs.Prelude.{◌≡◌, ◌≤◌, ◌<◌, ◌^◌, ◌++◌, length, List, ℕ, Option, Ok, IsTrue};
 ghost use Rattle.ec_edge.specs.Causes.{Rose};
 ghost use Rattle.ec_edge.specs.Pieces.{AllStay};
 ghost use Rattle.ec_logic.specs.Listing.{complete, list_text};
@@ -64,12 +64,14 @@ fn listed(put: Result<(), SinkFault>, count: u64) -> ListEnd
 fn list_truths<O: Sink>(alloc: Global, out: &mut O, accepted: &Accepted, truths: &[Row]) -> ListEnd
     requires numbered { accepted.now.atoms ≡ accepted.now.theory.signature }
     requires few { length truths.now < 2 ^ 32 }
-    ensures put { IsTrue (O.tells out.old) → (held : List ℕ → Option (List ℕ)) (file : List ℕ) →
+    ensures put { (held : List ℕ → Option (List ℕ)) (file : List ℕ) →
         IsListed held file (length truths.now) (list_text accepted.now.theory.signature truths.now (complete (length truths.now))) →
-        IsAnswered held file (O.bytes out.old) (O.bytes out.new) result }
+        IsAnswered held file (O.tells out.old) (O.bytes out.old) (O.bytes out.new) result }
     ensures files { result ≡ ListEnd.Files → ⊥ }
     ensures failed { result ≡ ListEnd.Out → Rose (O.faults out.old) (O.faults out.new) }
     ensures refused { (r : Refusal) → result ≡ ListEnd.Refused r → ⊥ }
+    ensures out_tells { O.tells out.new ≡ O.tells out.old }
+    ensures out_faults { O.faults out.old ≤ O.faults out.new }
 {
     let count = truths.len() as u64;
     let put = put_list(alloc, out, accepted, truths, Ending::Complete(count));
@@ -80,12 +82,14 @@ fn list_truths<O: Sink>(alloc: Global, out: &mut O, accepted: &Accepted, truths:
 fn list_accepted<O: Sink>(alloc: Global, file: &str, accepted: &Accepted, out: &mut O) -> ListEnd
     requires valid { IsValidTheory (theory_of accepted.now.theory) }
     requires numbered { accepted.now.atoms ≡ accepted.now.theory.signature }
-    ensures put { IsTrue (O.tells out.old) → (held : List ℕ → Option (List ℕ)) → IsAccepted held file.now (Ok (theory_of accepted.now.theory)) →
-        IsAnswered held file.now (O.bytes out.old) (O.bytes out.new) result }
+    ensures put { (held : List ℕ → Option (List ℕ)) → IsAccepted held file.now (Ok (theory_of accepted.now.theory)) →
+        IsAnswered held file.now (O.tells out.old) (O.bytes out.old) (O.bytes out.new) result }
     ensures files { result ≡ ListEnd.Files → ⊥ }
     ensures failed { result ≡ ListEnd.Out → Rose (O.faults out.old) (O.faults out.new) }
     ensures refused { (r : Refusal) → result ≡ ListEnd.Refused r → r.code ≡ 21 }
     ensures line { IsTrue (O.tells out.old) → (r : Refusal) → result ≡ ListEnd.Refused r → O.bytes out.new ≡ O.bytes out.old ++ refusal_line r }
+    ensures out_tells { O.tells out.new ≡ O.tells out.old }
+    ensures out_faults { O.faults out.old ≤ O.faults out.new }
 {
     if accepted.atoms.visible() > MOST_ATOMS {
         return refused(refuse_file(alloc, out, 21, file, "atoms"));
@@ -101,14 +105,22 @@ fn list_accepted<O: Sink>(alloc: Global, file: &str, accepted: &Accepted, out: &
 ///
 /// It tries each truth of the visible atoms, at most 2^16, and holds those found and one narrative.
 pub fn list<F: Files, O: Sink>(alloc: Global, files: &mut F, file: &str, out: &mut O) -> ListEnd
-    ensures put { IsTrue (F.tells files.old) → IsTrue (O.tells out.old) →
-        IsAnswered (F.held files.old) file.now (O.bytes out.old) (O.bytes out.new) result }
+    ensures put { IsTrue (F.tells files.old) →
+        IsAnswered (F.held files.old) file.now (O.tells out.old) (O.bytes out.old) (O.bytes out.new) result }
     ensures nothing { IsTrue (O.tells out.old) → result ≡ ListEnd.Files → O.bytes out.new ≡ O.bytes out.old }
     ensures files { result ≡ ListEnd.Files → Rose (F.faults files.old) (F.faults files.new) }
     ensures failed { result ≡ ListEnd.Out → Rose (O.faults out.old) (O.faults out.new) }
     ensures absent { (r : Refusal) → result ≡ ListEnd.Refused r → r.code ≡ 1 → Rose (F.absences files.old) (F.absences files.new) }
     ensures line { IsTrue (O.tells out.old) → (r : Refusal) → result ≡ ListEnd.Refused r → O.bytes out.new ≡ O.bytes out.old ++ refusal_line r }
     ensures stays { AllStay (F.held files.old) (F.held files.new) }
+
+    // What told its bytes still does, and no count falls.
+    ensures tells { F.tells files.new ≡ F.tells files.old }
+    ensures faults { F.faults files.old ≤ F.faults files.new }
+    ensures absences { F.absences files.old ≤ F.absences files.new }
+    ensures failed_starts { F.failed_starts files.new ≡ F.failed_starts files.old }
+    ensures out_tells { O.tells out.new ≡ O.tells out.old }
+    ensures out_faults { O.faults out.old ≤ O.faults out.new }
 {
     match accept(alloc, files, file) {
         Ok(accepted) => list_accepted(alloc, file, &accepted, out),

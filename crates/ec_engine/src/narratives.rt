@@ -4,8 +4,8 @@ ghost use Rattle.ec_edge.specs.Causes.{Rose};
 ghost use Rattle.ec_edge.specs.Pieces.{AppendsPrefix};
 ghost use Rattle.ec_logic.specs.Listing.{ending_text, list_text, narratives_from};
 ghost use Rattle.ec_logic.specs.Narrative.{line};
+ghost use Rattle.ec_listing.specs.Endings.{list_ending};
 ghost use Rattle.ec_engine.specs.Narratives.{narrative_of};
-ghost use Rattle.ec_engine.specs.Solve.{list_ending};
 
 use ec_accept::Accepted;
 use ec_clause::ending::Ending;
@@ -58,7 +58,7 @@ fn put_narratives<O: Sink>(
 }
 
 /// The last line of a list that ends so.
-fn last_line(alloc: Global, ending: Ending) -> Result<Vec<u8>, AllocError>
+pub(crate) fn last_line(alloc: Global, ending: Ending) -> Result<Vec<u8>, AllocError>
     ensures { IfOk result (λ text. text.items ≡ line (ending_text (list_ending ending))) }
 {
     let mut out = Vec::new(alloc);
@@ -81,6 +81,8 @@ pub fn put_list<O: Sink>(
     ensures ok { IsTrue (O.tells out.old) → OnOk result (O.bytes out.new ≡ O.bytes out.old ++ list_text accepted.now.theory.signature truths.now (list_ending ending)) }
     ensures part { IsTrue (O.tells out.old) → OnErr result (AppendsPrefix (list_text accepted.now.theory.signature truths.now (list_ending ending)) (O.bytes out.old) (O.bytes out.new)) }
     ensures failed { IsErrOf result SinkFault.Failed → Rose (O.faults out.old) (O.faults out.new) }
+    ensures tells { O.tells out.new ≡ O.tells out.old }
+    ensures faults { O.faults out.old ≤ O.faults out.new }
 {
     put_narratives(alloc, out, accepted, truths)?;
     let last = last_line(alloc, ending)?;

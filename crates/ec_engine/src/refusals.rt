@@ -1,5 +1,5 @@
 //! The lines of refusals, put for any command.
-ghost use Rattle.std.specs.Prelude.{◌≡◌, ◌++◌, IfOk, IsErrOf, IsTrue, OnErr, OnOk};
+ghost use Rattle.std.specs.Prelude.{◌≡◌, ◌≤◌, ◌++◌, IfOk, IsErrOf, IsTrue, OnErr, OnOk};
 ghost use Rattle.ec_edge.specs.Causes.{Rose};
 ghost use Rattle.ec_edge.specs.Pieces.{AppendsPrefix};
 ghost use Rattle.ec_load.specs.Refusals.{in_file, refused};
@@ -40,6 +40,8 @@ pub fn refuse<O: Sink>(alloc: Global, out: &mut O, refusal: Refusal) -> Result<R
     ensures ok { IsTrue (O.tells out.old) → OnOk result (O.bytes out.new ≡ O.bytes out.old ++ refusal_line refusal) }
     ensures part { IsTrue (O.tells out.old) → OnErr result (AppendsPrefix (refusal_line refusal) (O.bytes out.old) (O.bytes out.new)) }
     ensures failed { IsErrOf result SinkFault.Failed → Rose (O.faults out.old) (O.faults out.new) }
+    ensures tells { O.tells out.new ≡ O.tells out.old }
+    ensures faults { O.faults out.old ≤ O.faults out.new }
 {
     let text = refusal_text(alloc, &refusal)?;
     put_text(out, &text)?;
@@ -58,6 +60,8 @@ pub fn refuse_file<O: Sink>(
     ensures ok { IsTrue (O.tells out.old) → OnOk result (O.bytes out.new ≡ O.bytes out.old ++ refusal_line (refused code (in_file file.now 0) name.now)) }
     ensures part { IsTrue (O.tells out.old) → OnErr result (AppendsPrefix (refusal_line (refused code (in_file file.now 0) name.now)) (O.bytes out.old) (O.bytes out.new)) }
     ensures failed { IsErrOf result SinkFault.Failed → Rose (O.faults out.old) (O.faults out.new) }
+    ensures tells { O.tells out.new ≡ O.tells out.old }
+    ensures faults { O.faults out.old ≤ O.faults out.new }
 {
     let refusal = of_file(alloc, code, file, name)?;
     refuse(alloc, out, refusal)

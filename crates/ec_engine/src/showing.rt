@@ -98,6 +98,8 @@ fn put_counts<O: Sink>(alloc: Global, out: &mut O, counts: &Counts) -> Result<()
     ensures ok { IsTrue (O.tells out.old) → OnOk result (O.bytes out.new ≡ O.bytes out.old ++ counts_text counts.now) }
     ensures part { IsTrue (O.tells out.old) → OnErr result (AppendsPrefix (counts_text counts.now) (O.bytes out.old) (O.bytes out.new)) }
     ensures failed { IsErrOf result SinkFault.Failed → Rose (O.faults out.old) (O.faults out.new) }
+    ensures tells { O.tells out.new ≡ O.tells out.old }
+    ensures faults { O.faults out.old ≤ O.faults out.new }
 {
     let text = counts_text(alloc, counts)?;
     put_text(out, &text)
@@ -129,11 +131,13 @@ fn show_accepted<O: Sink>(alloc: Global, accepted: &Accepted, out: &mut O) -> Sh
     requires numbered { accepted.now.atoms ≡ accepted.now.theory.signature }
     requires light { weight_of (theory_of accepted.now.theory) ≤ 4000000 }
     requires few_files { length accepted.now.files.items ≤ 64 }
-    ensures put { IsTrue (O.tells out.old) → (held : List ℕ → Option (List ℕ)) (file : List ℕ) → IsAccepted held file (Ok (theory_of accepted.now.theory)) → HasFiles held file accepted.now.files.items →
-        IsShowAnswered held file (O.bytes out.old) (O.bytes out.new) result }
+    ensures put { (held : List ℕ → Option (List ℕ)) (file : List ℕ) → IsAccepted held file (Ok (theory_of accepted.now.theory)) → HasFiles held file accepted.now.files.items →
+        IsShowAnswered held file (O.tells out.old) (O.bytes out.old) (O.bytes out.new) result }
     ensures files { result ≡ ShowEnd.Files → ⊥ }
     ensures failed { result ≡ ShowEnd.Out → Rose (O.faults out.old) (O.faults out.new) }
     ensures refused { (r : Refusal) → result ≡ ShowEnd.Refused r → ⊥ }
+    ensures out_tells { O.tells out.new ≡ O.tells out.old }
+    ensures out_faults { O.faults out.old ≤ O.faults out.new }
 {
     match counted(alloc, accepted) {
         Ok(counts) => shown(put_counts(alloc, out, &counts), counts),
@@ -146,14 +150,22 @@ fn show_accepted<O: Sink>(alloc: Global, accepted: &Accepted, out: &mut O) -> Sh
 ///
 /// Time and memory grow with the weight.
 pub fn show<F: Files, O: Sink>(alloc: Global, files: &mut F, file: &str, out: &mut O) -> ShowEnd
-    ensures put { IsTrue (F.tells files.old) → IsTrue (O.tells out.old) →
-        IsShowAnswered (F.held files.old) file.now (O.bytes out.old) (O.bytes out.new) result }
+    ensures put { IsTrue (F.tells files.old) →
+        IsShowAnswered (F.held files.old) file.now (O.tells out.old) (O.bytes out.old) (O.bytes out.new) result }
     ensures nothing { IsTrue (O.tells out.old) → result ≡ ShowEnd.Files → O.bytes out.new ≡ O.bytes out.old }
     ensures files { result ≡ ShowEnd.Files → Rose (F.faults files.old) (F.faults files.new) }
     ensures failed { result ≡ ShowEnd.Out → Rose (O.faults out.old) (O.faults out.new) }
     ensures absent { (r : Refusal) → result ≡ ShowEnd.Refused r → r.code ≡ 1 → Rose (F.absences files.old) (F.absences files.new) }
     ensures line { IsTrue (O.tells out.old) → (r : Refusal) → result ≡ ShowEnd.Refused r → O.bytes out.new ≡ O.bytes out.old ++ refusal_line r }
     ensures stays { AllStay (F.held files.old) (F.held files.new) }
+
+    // What told its bytes still does, and no count falls.
+    ensures tells { F.tells files.new ≡ F.tells files.old }
+    ensures faults { F.faults files.old ≤ F.faults files.new }
+    ensures absences { F.absences files.old ≤ F.absences files.new }
+    ensures failed_starts { F.failed_starts files.new ≡ F.failed_starts files.old }
+    ensures out_tells { O.tells out.new ≡ O.tells out.old }
+    ensures out_faults { O.faults out.old ≤ O.faults out.new }
 {
     match accept(alloc, files, file) {
         Ok(accepted) => show_accepted(alloc, &accepted, out),

@@ -93,14 +93,21 @@ fn tell<F: Files, O: Sink>(
     requires notes { All IsNote found.now.log.notes }
     requires limit { HasLimit found.now.ending }
     requires few_notes { found.now.log.numbers.1 + length found.now.log.notes < 2 ^ 32 }
-    ensures put { IsTrue (F.tells files.old) → IsTrue (O.tells out.old) → (held : List ℕ → Option (List ℕ)) (file : List ℕ) (bounds : Bounds) → AllStay held (F.held files.old) →
+    ensures put { IsTrue (F.tells files.old) → (held : List ℕ → Option (List ℕ)) (file : List ℕ) (bounds : Bounds) → AllStay held (F.held files.old) →
         IsSolvable held file log.now bounds (theory_of accepted.now.theory) → IsFound (theory_of accepted.now.theory) bounds found.now.truths.items found.now.ending found.now.log →
-        IsSolveAnswered held file log.now bounds (O.bytes out.old) (O.bytes out.new) (F.held files.new log.now) (F.start_may_fail files.old) result }
+        IsSolveAnswered held file log.now bounds (O.tells out.old) (O.bytes out.old) (O.bytes out.new) (F.held files.new log.now)
+        (Rose (F.failed_starts files.old) (F.failed_starts files.new)) result }
     ensures nothing { result ≡ SolveEnd.Files → O.bytes out.new ≡ O.bytes out.old }
     ensures files { result ≡ SolveEnd.Files → Rose (F.faults files.old) (F.faults files.new) }
     ensures failed { result ≡ SolveEnd.Out → Rose (O.faults out.old) (O.faults out.new) }
     ensures refused { (r : Refusal) → result ≡ SolveEnd.Refused r → ⊥ }
     ensures others { OthersStay log.now (F.held files.old) (F.held files.new) }
+    ensures tells { F.tells files.new ≡ F.tells files.old }
+    ensures faults { F.faults files.old ≤ F.faults files.new }
+    ensures absences { F.absences files.old ≤ F.absences files.new }
+    ensures failed_starts { F.failed_starts files.old ≤ F.failed_starts files.new }
+    ensures out_tells { O.tells out.new ≡ O.tells out.old }
+    ensures out_faults { O.faults out.old ≤ O.faults out.new }
     ensures completes { is_complete found.now.ending ≡ true → IsWholeUnlessFailed result }
 {
     match found.log.write(files, log, &found.ending) {
@@ -126,14 +133,21 @@ fn search_accepted<F: Files, O: Sink>(
     requires valid { IsValidTheory (theory_of accepted.now.theory) }
     requires numbered { accepted.now.atoms ≡ accepted.now.theory.signature }
     requires light { weight_of (theory_of accepted.now.theory) ≤ 4000000 }
-    ensures put { IsTrue (F.tells files.old) → IsTrue (O.tells out.old) → (held : List ℕ → Option (List ℕ)) (file : List ℕ) → AllStay held (F.held files.old) →
+    ensures put { IsTrue (F.tells files.old) → (held : List ℕ → Option (List ℕ)) (file : List ℕ) → AllStay held (F.held files.old) →
         IsSolvable held file log.now bounds (theory_of accepted.now.theory) →
-        IsSolveAnswered held file log.now bounds (O.bytes out.old) (O.bytes out.new) (F.held files.new log.now) (F.start_may_fail files.old) result }
+        IsSolveAnswered held file log.now bounds (O.tells out.old) (O.bytes out.old) (O.bytes out.new) (F.held files.new log.now)
+        (Rose (F.failed_starts files.old) (F.failed_starts files.new)) result }
     ensures nothing { result ≡ SolveEnd.Files → O.bytes out.new ≡ O.bytes out.old }
     ensures files { result ≡ SolveEnd.Files → Rose (F.faults files.old) (F.faults files.new) }
     ensures failed { result ≡ SolveEnd.Out → Rose (O.faults out.old) (O.faults out.new) }
     ensures refused { (r : Refusal) → result ≡ SolveEnd.Refused r → ⊥ }
     ensures others { OthersStay log.now (F.held files.old) (F.held files.new) }
+    ensures tells { F.tells files.new ≡ F.tells files.old }
+    ensures faults { F.faults files.old ≤ F.faults files.new }
+    ensures absences { F.absences files.old ≤ F.absences files.new }
+    ensures failed_starts { F.failed_starts files.old ≤ F.failed_starts files.new }
+    ensures out_tells { O.tells out.new ≡ O.tells out.old }
+    ensures out_faults { O.faults out.old ≤ O.faults out.new }
     ensures completes { CanComplete bounds (theory_of accepted.now.theory) → IsWholeUnlessFailed result }
 {
     match search(alloc, &accepted.theory, &accepted.atoms, bounds) {
@@ -156,15 +170,22 @@ fn solve_accepted<F: Files, O: Sink>(
     requires valid { IsValidTheory (theory_of accepted.now.theory) }
     requires numbered { accepted.now.atoms ≡ accepted.now.theory.signature }
     requires light { weight_of (theory_of accepted.now.theory) ≤ 4000000 }
-    ensures put { IsTrue (F.tells files.old) → IsTrue (O.tells out.old) → (held : List ℕ → Option (List ℕ)) → AllStay held (F.held files.old) →
+    ensures put { IsTrue (F.tells files.old) → (held : List ℕ → Option (List ℕ)) → AllStay held (F.held files.old) →
         IsAccepted held file.now (Ok (theory_of accepted.now.theory)) → HasFiles held file.now accepted.now.files.items →
-        IsSolveAnswered held file.now log.now bounds (O.bytes out.old) (O.bytes out.new) (F.held files.new log.now) (F.start_may_fail files.old) result }
+        IsSolveAnswered held file.now log.now bounds (O.tells out.old) (O.bytes out.old) (O.bytes out.new) (F.held files.new log.now)
+        (Rose (F.failed_starts files.old) (F.failed_starts files.new)) result }
     ensures nothing { result ≡ SolveEnd.Files → O.bytes out.new ≡ O.bytes out.old }
     ensures files { result ≡ SolveEnd.Files → Rose (F.faults files.old) (F.faults files.new) }
     ensures failed { result ≡ SolveEnd.Out → Rose (O.faults out.old) (O.faults out.new) }
     ensures present { (r : Refusal) → result ≡ SolveEnd.Refused r → r.code ≡ 1 → ⊥ }
     ensures line { IsTrue (O.tells out.old) → (r : Refusal) → result ≡ SolveEnd.Refused r → O.bytes out.new ≡ O.bytes out.old ++ refusal_line r }
     ensures others { OthersStay log.now (F.held files.old) (F.held files.new) }
+    ensures tells { F.tells files.new ≡ F.tells files.old }
+    ensures faults { F.faults files.old ≤ F.faults files.new }
+    ensures absences { F.absences files.old ≤ F.absences files.new }
+    ensures failed_starts { F.failed_starts files.old ≤ F.failed_starts files.new }
+    ensures out_tells { O.tells out.new ≡ O.tells out.old }
+    ensures out_faults { O.faults out.old ≤ O.faults out.new }
     ensures completes { bounds.models * visible_count (theory_of accepted.now.theory) ≤ 2 ^ 28 → (Contains accepted.now.files.items log.now → ⊥) → CanComplete bounds (theory_of accepted.now.theory) →
         IsWholeUnlessFailed result }
 {
@@ -192,14 +213,23 @@ pub fn solve<F: Files, O: Sink>(
     out: &mut O,
 ) -> SolveEnd
     requires { AreBounds bounds }
-    ensures put { IsTrue (F.tells files.old) → IsTrue (O.tells out.old) →
-        IsSolveAnswered (F.held files.old) file.now log.now bounds (O.bytes out.old) (O.bytes out.new) (F.held files.new log.now) (F.start_may_fail files.old) result }
+    ensures put { IsTrue (F.tells files.old) →
+        IsSolveAnswered (F.held files.old) file.now log.now bounds (O.tells out.old) (O.bytes out.old) (O.bytes out.new) (F.held files.new log.now)
+        (Rose (F.failed_starts files.old) (F.failed_starts files.new)) result }
     ensures nothing { IsTrue (O.tells out.old) → result ≡ SolveEnd.Files → O.bytes out.new ≡ O.bytes out.old }
     ensures files { result ≡ SolveEnd.Files → Rose (F.faults files.old) (F.faults files.new) }
     ensures failed { result ≡ SolveEnd.Out → Rose (O.faults out.old) (O.faults out.new) }
     ensures absent { (r : Refusal) → result ≡ SolveEnd.Refused r → r.code ≡ 1 → Rose (F.absences files.old) (F.absences files.new) }
     ensures line { IsTrue (O.tells out.old) → (r : Refusal) → result ≡ SolveEnd.Refused r → O.bytes out.new ≡ O.bytes out.old ++ refusal_line r }
     ensures others { OthersStay log.now (F.held files.old) (F.held files.new) }
+
+    // What told its bytes still does, and no count falls.
+    ensures tells { F.tells files.new ≡ F.tells files.old }
+    ensures faults { F.faults files.old ≤ F.faults files.new }
+    ensures absences { F.absences files.old ≤ F.absences files.new }
+    ensures failed_starts { F.failed_starts files.old ≤ F.failed_starts files.new }
+    ensures out_tells { O.tells out.new ≡ O.tells out.old }
+    ensures out_faults { O.faults out.old ≤ O.faults out.new }
 
     // The bounds don't cut a search short that can come to its end.
     ensures completes { IsTrue (F.tells files.old) → (theory : Theory) → IsSolvable (F.held files.old) file.now log.now bounds theory → CanComplete bounds theory → IsWholeUnlessFailed result }

@@ -20,6 +20,8 @@ impl Files for CutFiles {
 
     ghost absences = { λ cut. (tally_of cut.files).absences };
 
+    ghost failed_starts = { λ cut. (tally_of cut.files).failed_starts };
+
     fn piece(&mut self, name: &str, at: u64, buf: &mut [u8]) -> Result<usize, FileFault> {
         let want = self.most.min(buf.len());
         self.files.piece(name, at, &mut buf[..want])

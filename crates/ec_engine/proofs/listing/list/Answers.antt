@@ -5,6 +5,6 @@ use Rattle.ec_engine.proofs.Endings.{list_ends}
 use Rattle.ec_engine.proofs.listing.list.Goals as goal
 
 pub returns-in-Err-Refused-clause-put : goal.returns-in-Err-Refused-clause-put
-returns-in-Err-Refused-clause-put g c = λ told shown.
-    rw c.refused.ensures (list_ends (g.F.Files.held c.args.files.now) c.args.file.now _ _ _ end.Refused c.in-Err-Refused.refusal c.refuse.result
-    (unaccepted (rw c.in-Err-Refused.field-0-is at c.in-Err-Refused.ensures.accepted told), refl) c.refuse.ensures.same (c.refuse.ensures.ok shown) (c.refuse.ensures.part shown))
+returns-in-Err-Refused-clause-put g c = λ told.
+    rw c.refused.ensures (list_ends (g.F.Files.held c.args.files.now) c.args.file.now _ _ _ _ end.Refused c.in-Err-Refused.refusal c.refuse.result
+    (unaccepted (rw c.in-Err-Refused.field-0-is at c.in-Err-Refused.ensures.accepted told), refl) c.refuse.ensures.same c.refuse.ensures.ok c.refuse.ensures.part)

@@ -17,11 +17,11 @@ pub tell-requires-clause-few_notes : goal.tell-requires-clause-few_notes
 tell-requires-clause-few_notes g c = numbers_writable (theory_of c.args.accepted.now.theory) c.args.bounds c.in-Ok.found.truths.items c.in-Ok.found.ending c.in-Ok.found.log c.in-Ok.ensures
 
 pub returns-in-Ok-clause-put : goal.returns-in-Ok-clause-put
-returns-in-Ok-clause-put g c = λ told shown held file before solvable. c.tell.ensures.put told shown held file c.args.bounds before solvable c.in-Ok.ensures
+returns-in-Ok-clause-put g c = λ told held file before solvable. c.tell.ensures.put told held file c.args.bounds before solvable c.in-Ok.ensures
 
 pub returns-in-Ok-clause-completes : goal.returns-in-Ok-clause-completes
 returns-in-Ok-clause-completes g c = λ can.
     c.tell.ensures.completes (completes_found (theory_of c.args.accepted.now.theory) c.args.bounds c.in-Ok.found.truths.items c.in-Ok.found.ending c.in-Ok.found.log c.in-Ok.ensures can)
 
 pub returns-in-Err-clause-put : goal.returns-in-Err-clause-put
-returns-in-Err-clause-put g c = λ told shown held file before solvable. inl (nothing_done held file c.args.log.now c.args.bounds _ _ (before c.args.log.now))
+returns-in-Err-clause-put g c = λ told held file before solvable. inl (nothing_done held file c.args.log.now c.args.bounds _ _ _ (before c.args.log.now))

@@ -1,4 +1,5 @@
-use Rattle.std.proofs.Common.{◌∙◌, refl, IsTrue}
+use Rattle.std.proofs.Common.{ℕ, ◌∙◌, refl, subst, IsTrue}
+use Rattle.ec_edge.specs.Causes.{Rose}
 use Rattle.ec_theory.specs.Theories.{theory_of}
 use Rattle.ec_engine.specs.Solve.{unaccepted}
 use Rattle.ec_engine.specs.declared.solving.SolveEnd.TheVariants as end
@@ -7,11 +8,11 @@ use Rattle.ec_engine.proofs.Searching.{completes_accepted, none_accepted}
 use Rattle.ec_engine.proofs.solving.solve.Goals as goal
 
 pub returns-in-Ok-clause-put : goal.returns-in-Ok-clause-put
-returns-in-Ok-clause-put g c = λ told shown.
+returns-in-Ok-clause-put g c = λ told.
     let held = g.F.Files.held c.args.files.now in
     let now : IsTrue (g.F.Files.tells c.accept.new.files) = rw c.in-Ok.ensures.tells told in
-    solve_weaker held c.args.file.now c.args.log.now c.args.bounds _ _ _ (g.F.Files.start_may_fail c.accept.new.files) (g.F.Files.start_may_fail c.args.files.now) c.in-Ok.ensures.starts c.solve_accepted.result
-    (c.solve_accepted.ensures.put now shown held c.in-Ok.ensures.stays (c.in-Ok.ensures.accepted told) (c.in-Ok.ensures.files told))
+    solve_weaker held c.args.file.now c.args.log.now c.args.bounds _ _ _ _ _ _ (subst (λ (n : ℕ). Rose n (g.F.Files.failed_starts c.solve_accepted.new.files)) c.in-Ok.ensures.failed_starts) c.solve_accepted.result
+    (c.solve_accepted.ensures.put now held c.in-Ok.ensures.stays (c.in-Ok.ensures.accepted told) (c.in-Ok.ensures.files told))
 
 pub returns-in-Ok-clause-absent : goal.returns-in-Ok-clause-absent
 returns-in-Ok-clause-absent g c = λ r is one. absurd (c.solve_accepted.ensures.present r is one)
@@ -25,10 +26,10 @@ returns-in-Ok-clause-completes g c = λ told theory solvable can.
     (c.in-Ok.ensures.accepted told) (c.in-Ok.ensures.files told) solvable can
 
 pub returns-in-Err-Refused-clause-put : goal.returns-in-Err-Refused-clause-put
-returns-in-Err-Refused-clause-put g c = λ told shown.
-    rw c.refused.ensures (solve_ends (g.F.Files.held c.args.files.now) c.args.file.now c.args.log.now c.args.bounds _ _ _ (g.F.Files.start_may_fail c.args.files.now) _ end.Refused c.in-Err-Refused.refusal c.refuse.result
+returns-in-Err-Refused-clause-put g c = λ told.
+    rw c.refused.ensures (solve_ends (g.F.Files.held c.args.files.now) c.args.file.now c.args.log.now c.args.bounds _ _ _ _ _ _ end.Refused c.in-Err-Refused.refusal c.refuse.result
     (unaccepted (rw c.in-Err-Refused.field-0-is at c.in-Err-Refused.ensures.accepted told), refl, c.in-Err-Refused.ensures.stays c.args.log.now)
-    (rw c.in-Err-Refused.field-0-is at c.refuse.ensures.same) (rw c.in-Err-Refused.field-0-is at c.refuse.ensures.ok shown) (rw c.in-Err-Refused.field-0-is at c.refuse.ensures.part shown))
+    (rw c.in-Err-Refused.field-0-is at c.refuse.ensures.same) (rw c.in-Err-Refused.field-0-is at c.refuse.ensures.ok) (rw c.in-Err-Refused.field-0-is at c.refuse.ensures.part))
 
 pub returns-in-Err-Refused-clause-completes : goal.returns-in-Err-Refused-clause-completes
 returns-in-Err-Refused-clause-completes g c = λ told theory solvable can.
