@@ -114,7 +114,7 @@ fn add_sorts_of(
 }
 
 /// The sorts, each with its parent.
-pub(crate) fn declared_sorts(
+fn declared_sorts(
     alloc: Global,
     statements: &[Placed],
 ) -> Result<IndexMap<Word, Option<Word>>, AllocError>
@@ -215,7 +215,7 @@ fn add_symbols(alloc: Global, symbols: &mut Symbols, content: &Content) -> Resul
 }
 
 /// The symbols, each with its role, its number and its sorts.
-pub(crate) fn declared_symbols(alloc: Global, statements: &[Placed]) -> Result<Symbols, AllocError>
+fn declared_symbols(alloc: Global, statements: &[Placed]) -> Result<Symbols, AllocError>
     requires { IsFew (continued symbol_name built_in_symbols (joined symbols_in (map placed_of statements.now))) }
     ensures { IfOk result (λ symbols. symbols ≡ continued symbol_name built_in_symbols (joined symbols_in (map placed_of statements.now))) }
 {
@@ -224,6 +224,20 @@ pub(crate) fn declared_symbols(alloc: Global, statements: &[Placed]) -> Result<S
         add_symbols(alloc, &mut symbols, &placed.statement.content)?;
     }
     Ok(symbols)
+}
+
+/// The sorts and the symbols.
+pub(crate) fn declared_names(
+    alloc: Global,
+    statements: &[Placed],
+) -> Result<(IndexMap<Word, Option<Word>>, Symbols), AllocError>
+    requires { IsFew (continued symbol_name built_in_symbols (joined symbols_in (map placed_of statements.now))) }
+    ensures sorts { IfOk result (λ names. sorts_of names.0.entries ≡ continued sort_name built_in_sorts (joined sorts_in (map placed_of statements.now))) }
+    ensures symbols { IfOk result (λ names. names.1 ≡ continued symbol_name built_in_symbols (joined symbols_in (map placed_of statements.now))) }
+{
+    let sorts = declared_sorts(alloc, statements)?;
+    let symbols = declared_symbols(alloc, statements)?;
+    Ok((sorts, symbols))
 }
 
 // ---- ranges, noninertial fluents and choices
@@ -244,7 +258,7 @@ fn add_range(ranges: &mut IndexMap<Word, Range>, content: &Content) -> Result<()
 }
 
 /// The first range of each sort.
-pub(crate) fn declared_ranges(
+fn declared_ranges(
     alloc: Global,
     statements: &[Placed],
 ) -> Result<IndexMap<Word, Range>, AllocError>
@@ -276,10 +290,7 @@ fn add_noninertial(set: &mut IndexSet<Word>, content: &Content) -> Result<(), Al
 }
 
 /// The names after `noninertial`, each once.
-pub(crate) fn declared_noninertial(
-    alloc: Global,
-    statements: &[Placed],
-) -> Result<IndexSet<Word>, AllocError>
+fn declared_noninertial(alloc: Global, statements: &[Placed]) -> Result<IndexSet<Word>, AllocError>
     ensures { IfOk result (λ names. names.keys ≡ continued itself [] (joined noninertial_in (map placed_of statements.now))) }
 {
     let mut names = IndexSet::new(alloc);
@@ -287,6 +298,19 @@ pub(crate) fn declared_noninertial(
         add_noninertial(&mut names, &placed.statement.content)?;
     }
     Ok(names)
+}
+
+/// The ranges of sorts, and the noninertial fluents.
+pub(crate) fn declared_limits(
+    alloc: Global,
+    statements: &[Placed],
+) -> Result<(IndexMap<Word, Range>, IndexSet<Word>), AllocError>
+    ensures ranges { IfOk result (λ limits. ranges_of limits.0.entries ≡ continued range_sort [] (joined ranges_in (map placed_of statements.now))) }
+    ensures noninertial { IfOk result (λ limits. limits.1.keys ≡ continued itself [] (joined noninertial_in (map placed_of statements.now))) }
+{
+    let ranges = declared_ranges(alloc, statements)?;
+    let noninertial = declared_noninertial(alloc, statements)?;
+    Ok((ranges, noninertial))
 }
 
 /// The last choice of an option, where it was so before all statements.

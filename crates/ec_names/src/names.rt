@@ -8,9 +8,7 @@ ghost use Rattle.ec_names.specs.Names.{descends, is_below, is_integer_sort, is_n
 ghost use Rattle.ec_names.specs.Counted.{things};
 ghost use Rattle.ec_names.specs.View.{named_range, named_symbol, role_of, symbol_of};
 
-use crate::collecting::{
-    declared_noninertial, declared_ranges, declared_sorts, declared_symbols, last_choice,
-};
+use crate::collecting::{declared_limits, declared_names, last_choice};
 use crate::query::Bytes;
 use crate::range::Range;
 use crate::symbol::{Symbol, Symbols};
@@ -52,17 +50,17 @@ impl Names {
         requires { things (map placed_of statements.now) < 2 ^ 30 }
         ensures { IfOk result (λ names. names ≡ names_of (map placed_of statements.now)) }
     {
-        let sorts = declared_sorts(alloc, statements)?;
-        let symbols = declared_symbols(alloc, statements)?;
-        let ranges = declared_ranges(alloc, statements)?;
-        let noninertial = declared_noninertial(alloc, statements)?;
+        let manual_release = last_choice(statements, "manualrelease", false);
+        let time_diff = last_choice(statements, "timediff", true);
+        let (sorts, symbols) = declared_names(alloc, statements)?;
+        let (ranges, noninertial) = declared_limits(alloc, statements)?;
         Ok(Names {
             sorts,
             symbols,
             ranges,
             noninertial,
-            manual_release: last_choice(statements, "manualrelease", false),
-            time_diff: last_choice(statements, "timediff", true),
+            manual_release,
+            time_diff,
         })
     }
 

@@ -1,5 +1,6 @@
 //! What the rules of the grammar see of tokens.
 ghost use Rattle.std.specs.Prelude.{◌≡◌, ◌∷◌, [], ◌<◌, MatchOption, IfOk};
+ghost use Rattle.std.specs.Str.{bytes_eq};
 ghost use Rattle.ec_parse.specs.Mark.{sign_of, keyword_of, number_of, mark_of, marks, seen, seen_all, Lacks};
 ghost use Rattle.ec_parse.specs.Mark as spec;
 
@@ -97,32 +98,39 @@ fn sign_at(word: &[u8]) -> Option<Sign>
     }
 }
 
+/// Whether the word is spelled so.
+fn is(word: &[u8], name: &str) -> bool
+    ensures { result ≡ bytes_eq word.now name.now }
+{
+    word == name.as_bytes()
+}
+
 fn keyword_at(word: &[u8]) -> Option<Keyword>
     ensures { result ≡ keyword_of word.now }
 {
-    if word == b"sort".as_slice() {
+    if is(word, "sort") {
         Some(Keyword::Sort)
-    } else if word == b"reified".as_slice() {
+    } else if is(word, "reified") {
         Some(Keyword::Reified)
-    } else if word == b"function".as_slice() {
+    } else if is(word, "function") {
         Some(Keyword::Function)
-    } else if word == b"event".as_slice() {
+    } else if is(word, "event") {
         Some(Keyword::Event)
-    } else if word == b"fluent".as_slice() {
+    } else if is(word, "fluent") {
         Some(Keyword::Fluent)
-    } else if word == b"noninertial".as_slice() {
+    } else if is(word, "noninertial") {
         Some(Keyword::Noninertial)
-    } else if word == b"predicate".as_slice() {
+    } else if is(word, "predicate") {
         Some(Keyword::Predicate)
-    } else if word == b"range".as_slice() {
+    } else if is(word, "range") {
         Some(Keyword::Range)
-    } else if word == b"completion".as_slice() {
+    } else if is(word, "completion") {
         Some(Keyword::Completion)
-    } else if word == b"xor".as_slice() {
+    } else if is(word, "xor") {
         Some(Keyword::Xor)
-    } else if word == b"mutex".as_slice() {
+    } else if is(word, "mutex") {
         Some(Keyword::Mutex)
-    } else if word == b"ignore".as_slice() {
+    } else if is(word, "ignore") {
         Some(Keyword::Ignore)
     } else {
         None
