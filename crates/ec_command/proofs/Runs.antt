@@ -23,8 +23,10 @@ use Rattle.ec_command.specs.declared.status.Status.TheVariants as status
 use Rattle.ec_command.specs.declared.words.Job.{Job}
 use Rattle.ec_command.specs.declared.words.Job.TheVariants as job
 use Rattle.ec_command.specs.Ends.{check_status, list_status, show_status, solve_status}
+use Rattle.ec_command.specs.Faults.{Stops}
+use Rattle.ec_command.specs.SampleRun.{PutsNoReport, PutsReportPart, IsSampleRun}
 use Rattle.ec_command.specs.Words.{job_of}
-use Rattle.ec_command.specs.Run.{usage, usage_text, IsNoJobAnswer, listed, list_refused, solved, limited_by_models, limited_by_conflicts, solve_refused, checked, checked_to_models, checked_to_conflicts, not_shown, check_refused, shown, show_refused, PutsPart, PutsNothing, Completes, IsRun, IsWholeAnswer, log_of}
+use Rattle.ec_command.specs.Run.{usage, usage_text, IsNoJobAnswer, listed, list_refused, solved, limited_by_models, limited_by_conflicts, solve_refused, checked, checked_to_models, checked_to_conflicts, not_shown, check_refused, shown, show_refused, sampled, PutsPart, PutsNothing, Completes, IsRun, IsWholeAnswer}
 
 -- ---- words that are no job
 
@@ -40,19 +42,36 @@ no_job_run words held told before after start_failed status.OutFault none p = re
 no_job_run words held told before after start_failed status.Usage none p = record { text = usage_text; due = usage none; put = p }
 no_job_run words held told before after start_failed status.NoMemory none p = inr (record { answered = status.Usage; text = usage_text; due = usage none; put = p })
 
--- nothing was done
-pub untouched : (words : List (List ℕ)) (held : List ℕ → Option (List ℕ)) (told : Bool) (before : List ℕ) → PutsNothing words held held told before before
-untouched words held told before = record { same = λ _. refl; log_part = λ file log bounds asked. inl refl }
+-- ---- a job that writes nothing
 
--- ---- a job without a log
+-- the job is a search
+abbrev pub IsSearch : Option Job → Type 0
+IsSearch (Some (job.List file)) = ⊥
+IsSearch (Some (job.Solve file log bounds)) = Unit {0}
+IsSearch (Some (job.Check file list log)) = ⊥
+IsSearch (Some (job.Show file)) = ⊥
+IsSearch (Some (job.Sample n)) = ⊥
+IsSearch None = ⊥
 
-no_log : (words : List (List ℕ)) (held holds : List ℕ → Option (List ℕ)) (told : Bool) (before after : List ℕ) (asked : Job) → job_of words ≡ Some asked → log_of (Some asked) ≡ None → SentNothing told before after
-    → PutsNothing words held holds told before after
-no_log words held holds told before after asked is none same = record {
+-- the job is a sample
+abbrev pub IsSample : Option Job → Type 0
+IsSample (Some (job.List file)) = ⊥
+IsSample (Some (job.Solve file log bounds)) = ⊥
+IsSample (Some (job.Check file list log)) = ⊥
+IsSample (Some (job.Show file)) = ⊥
+IsSample (Some (job.Sample n)) = Unit {0}
+IsSample None = ⊥
+
+-- words with a job of another kind have none of this kind
+other_kind : (IsKind : Option Job → Type 0) (asked other : Option Job) (words : List (List ℕ)) → job_of words ≡ asked → (IsKind asked → ⊥) → job_of words ≡ other → IsKind other → ⊥
+other_kind IsKind asked other words is none also kind = none (subst IsKind (sym also ∙ is) kind)
+
+writes_nothing : (words : List (List ℕ)) (held holds : List ℕ → Option (List ℕ)) (told : Bool) (before after : List ℕ) (lost : Type 0) (asked : Job) → job_of words ≡ Some asked → (IsSearch (Some asked) → ⊥) → (IsSample (Some asked) → ⊥)
+    → SentNothing told before after → PutsNothing words held holds told before after lost
+writes_nothing words held holds told before after lost asked is no_search no_sample same = record {
   same = same;
-  log_part = λ file log bounds other.
-      let clash : Some log ≡ None = ap log_of (sym other ∙ is) ∙ none in
-      absurd (cc);
+  log_part = λ file log bounds other. absurd (other_kind IsSearch (Some asked) (Some (job.Solve file log bounds)) words is no_search other tt);
+  sample_part = λ n other. absurd (other_kind IsSample (Some asked) (Some (job.Sample n)) words is no_sample other tt);
 }
 
 module _ (words : List (List ℕ)) (held holds : List ℕ → Option (List ℕ)) (told : Bool) (start_failed : Type 0) (file : List ℕ) (asked : job_of words ≡ Some (job.List file)) where
@@ -66,14 +85,14 @@ module _ (words : List (List ℕ)) (held holds : List ℕ → Option (List ℕ))
   list_part : (before after : List ℕ) → PutsPrefix held file told before after → PutsPart words held holds told before after
   list_part before after p = list_due before after p.answer p.text p.due p.put
 
-  list_memory : (before after : List ℕ) → SentNothing told before after ⊎ PutsPrefix held file told before after → PutsNothing words held holds told before after ⊎ PutsPart words held holds told before after
-  list_memory before after (inl same) = inl (no_log words held holds told before after (job.List file) asked refl same)
+  list_memory : (before after : List ℕ) → SentNothing told before after ⊎ PutsPrefix held file told before after → PutsNothing words held holds told before after ⊥ ⊎ PutsPart words held holds told before after
+  list_memory before after (inl same) = inl (writes_nothing words held holds told before after ⊥ (job.List file) asked (λ p. p) (λ p. p) same)
   list_memory before after (inr p) = inr (list_part before after p)
 
   pub list_run : (before after : List ℕ) (answer : ListEnd) → IsAnswered held file told before after answer → IsRun words held holds told before after start_failed (list_status answer)
   list_run before after (list.Complete count) p = record { text = p.text; due = listed file count p.text asked p.due; put = p.put }
   list_run before after (list.Refused r) p = record { text = p.text; due = list_refused file r p.text asked p.due; put = p.put }
-  list_run before after list.Files p = inr (no_log words held holds told before after (job.List file) asked refl p)
+  list_run before after list.Files p = writes_nothing words held holds told before after start_failed (job.List file) asked (λ p. p) (λ p. p) p
   list_run before after list.Out p = list_part before after p
   list_run before after list.Memory p = list_memory before after p
 
@@ -88,14 +107,14 @@ module _ (words : List (List ℕ)) (held holds : List ℕ → Option (List ℕ))
   show_part : (before after : List ℕ) → ShowPutsPrefix held file told before after → PutsPart words held holds told before after
   show_part before after p = show_due before after p.answer p.text p.due p.put
 
-  show_memory : (before after : List ℕ) → SentNothing told before after ⊎ ShowPutsPrefix held file told before after → PutsNothing words held holds told before after ⊎ PutsPart words held holds told before after
-  show_memory before after (inl same) = inl (no_log words held holds told before after (job.Show file) asked refl same)
+  show_memory : (before after : List ℕ) → SentNothing told before after ⊎ ShowPutsPrefix held file told before after → PutsNothing words held holds told before after ⊥ ⊎ PutsPart words held holds told before after
+  show_memory before after (inl same) = inl (writes_nothing words held holds told before after ⊥ (job.Show file) asked (λ p. p) (λ p. p) same)
   show_memory before after (inr p) = inr (show_part before after p)
 
   pub show_run : (before after : List ℕ) (answer : ShowEnd) → IsShowAnswered held file told before after answer → IsRun words held holds told before after start_failed (show_status answer)
   show_run before after (show.Shown counts) p = record { text = p.text; due = shown file counts p.text asked p.due; put = p.put }
   show_run before after (show.Refused r) p = record { text = p.text; due = show_refused file r p.text asked p.due; put = p.put }
-  show_run before after show.Files p = inr (no_log words held holds told before after (job.Show file) asked refl p)
+  show_run before after show.Files p = writes_nothing words held holds told before after start_failed (job.Show file) asked (λ p. p) (λ p. p) p
   show_run before after show.Out p = show_part before after p
   show_run before after show.Memory p = show_memory before after p
 
@@ -113,8 +132,8 @@ module _ (words : List (List ℕ)) (held holds : List ℕ → Option (List ℕ))
   check_part : (before after : List ℕ) → CheckPutsPrefix held file list log told before after → PutsPart words held holds told before after
   check_part before after p = check_due before after p.answer p.text p.due p.put
 
-  check_memory : (before after : List ℕ) → SentNothing told before after ⊎ CheckPutsPrefix held file list log told before after → PutsNothing words held holds told before after ⊎ PutsPart words held holds told before after
-  check_memory before after (inl same) = inl (no_log words held holds told before after (job.Check file list log) asked refl same)
+  check_memory : (before after : List ℕ) → SentNothing told before after ⊎ CheckPutsPrefix held file list log told before after → PutsNothing words held holds told before after ⊥ ⊎ PutsPart words held holds told before after
+  check_memory before after (inl same) = inl (writes_nothing words held holds told before after ⊥ (job.Check file list log) asked (λ p. p) (λ p. p) same)
   check_memory before after (inr p) = inr (check_part before after p)
 
   pub check_run : (before after : List ℕ) (answer : CheckEnd) → IsCheckAnswered held file list log told before after answer → IsRun words held holds told before after start_failed (check_status answer)
@@ -123,7 +142,7 @@ module _ (words : List (List ℕ)) (held holds : List ℕ → Option (List ℕ))
   check_run before after (check.Yes (Conflicts most)) p = record { text = p.text; due = checked_to_conflicts file list log most p.text asked p.due; put = p.put }
   check_run before after (check.No why) p = record { text = p.text; due = not_shown file list log why p.text asked p.due; put = p.put }
   check_run before after (check.Refused r) p = record { text = p.text; due = check_refused file list log r p.text asked p.due; put = p.put }
-  check_run before after check.Files p = inr (no_log words held holds told before after (job.Check file list log) asked refl p)
+  check_run before after check.Files p = writes_nothing words held holds told before after start_failed (job.Check file list log) asked (λ p. p) (λ p. p) p
   check_run before after check.Out p = check_part before after p
   check_run before after check.Memory p = check_memory before after p
 
@@ -141,6 +160,7 @@ Held P (job.List file) = Unit {0}
 Held P (job.Solve file log bounds) = P file log bounds
 Held P (job.Check file list log) = Unit {0}
 Held P (job.Show file) = Unit {0}
+Held P (job.Sample n) = Unit {0}
 
 module _ (words : List (List ℕ)) (held holds : List ℕ → Option (List ℕ)) (told : Bool) (start_failed : Type 0) (file log : List ℕ) (bounds : Bounds) (asked : job_of words ≡ Some (job.Solve file log bounds)) where
   solve_due : (before after : List ℕ) (answer : SolveEnd) (text : List ℕ) → IsSolveDue held file log bounds answer text (holds log) → SentPart told text before after → PutsPart words held holds told before after
@@ -167,19 +187,21 @@ module _ (words : List (List ℕ)) (held holds : List ℕ → Option (List ℕ))
   solve_part : (before after : List ℕ) → SolvePutsPrefix held file log bounds told before after (holds log) → PutsPart words held holds told before after
   solve_part before after p = solve_due before after p.answer p.text p.due p.put
 
-  solve_nothing : (before after : List ℕ) → solves.PutsNothing held file log bounds told before after (holds log) → PutsNothing words held holds told before after
-  solve_nothing before after p = record {
-    same = p.same;
+  -- nothing was put, and the log is lost, or as it may be
+  solve_nothing : (before after : List ℕ) (lost : Type 0) → SentNothing told before after → lost ⊎ (holds log ≡ held log) ⊎ WritesPrefix held file log bounds (holds log) → PutsNothing words held holds told before after lost
+  solve_nothing before after lost same log_part = record {
+    same = same;
     log_part = λ file' log' bounds' other.
-        subst (Held (λ f l b. (holds l ≡ held l) ⊎ WritesPrefix held f l b (holds l))) (same_solve words file log bounds file' log' bounds' asked other) p.log_part;
+        subst (Held (λ f l b. lost ⊎ (holds l ≡ held l) ⊎ WritesPrefix held f l b (holds l))) (same_solve words file log bounds file' log' bounds' asked other) log_part;
+    sample_part = λ n other. absurd (other_kind IsSample (Some (job.Solve file log bounds)) (Some (job.Sample n)) words asked (λ p. p) other tt);
   }
 
-  solve_files : (before after : List ℕ) → (start_failed × SentNothing told before after) ⊎ solves.PutsNothing held file log bounds told before after (holds log) → (start_failed × SentNothing told before after) ⊎ PutsNothing words held holds told before after
-  solve_files before after (inl p) = inl p
-  solve_files before after (inr p) = inr (solve_nothing before after p)
+  solve_files : (before after : List ℕ) → (start_failed × SentNothing told before after) ⊎ solves.PutsNothing held file log bounds told before after (holds log) → PutsNothing words held holds told before after start_failed
+  solve_files before after (inl p) = solve_nothing before after start_failed p.1 (inl p.0)
+  solve_files before after (inr p) = solve_nothing before after start_failed p.same (inr p.log_part)
 
-  solve_memory : (before after : List ℕ) → solves.PutsNothing held file log bounds told before after (holds log) ⊎ SolvePutsPrefix held file log bounds told before after (holds log) → PutsNothing words held holds told before after ⊎ PutsPart words held holds told before after
-  solve_memory before after (inl p) = inl (solve_nothing before after p)
+  solve_memory : (before after : List ℕ) → solves.PutsNothing held file log bounds told before after (holds log) ⊎ SolvePutsPrefix held file log bounds told before after (holds log) → PutsNothing words held holds told before after ⊥ ⊎ PutsPart words held holds told before after
+  solve_memory before after (inl p) = inl (solve_nothing before after ⊥ p.same (inr p.log_part))
   solve_memory before after (inr p) = inr (solve_part before after p)
 
   pub solve_run : (before after : List ℕ) (answer : SolveEnd) → IsSolveAnswered held file log bounds told before after (holds log) start_failed answer → IsRun words held holds told before after start_failed (solve_status answer)
@@ -190,6 +212,42 @@ module _ (words : List (List ℕ)) (held holds : List ℕ → Option (List ℕ))
   solve_run before after solve.Files p = solve_files before after p
   solve_run before after solve.Out p = solve_part before after p
   solve_run before after solve.Memory p = solve_memory before after p
+
+-- ---- a sample
+
+-- what may be where a sample of this many steps stops
+abbrev StopsAs : (ℕ → Type 0) → Option Job → Type 0
+StopsAs P (Some (job.List file)) = Unit {0}
+StopsAs P (Some (job.Solve file log bounds)) = Unit {0}
+StopsAs P (Some (job.Check file list log)) = Unit {0}
+StopsAs P (Some (job.Show file)) = Unit {0}
+StopsAs P (Some (job.Sample n)) = P n
+StopsAs P None = Unit {0}
+
+module _ (words : List (List ℕ)) (held holds : List ℕ → Option (List ℕ)) (told : Bool) (start_failed : Type 0) (n : ℕ) (asked : job_of words ≡ Some (job.Sample n)) where
+  sample_nothing : (before after : List ℕ) (lost : Type 0) → PutsNoReport n held holds told before after lost → PutsNothing words held holds told before after lost
+  sample_nothing before after lost p = record {
+    same = p.same;
+    log_part = λ file log bounds other. absurd (other_kind IsSearch (Some (job.Sample n)) (Some (job.Solve file log bounds)) words asked (λ q. q) other tt);
+    sample_part = λ m other. subst (StopsAs (λ k. Stops k held holds lost)) (sym asked ∙ other) p.stops;
+  }
+
+  sample_put : (before after : List ℕ) → PutsReportPart n holds told before after → PutsPart words held holds told before after
+  sample_put before after p = record { answered = p.answered; text = p.text; due = sampled n p.answered p.text asked p.due; put = p.put }
+
+  sample_memory : (before after : List ℕ) → PutsNoReport n held holds told before after ⊥ ⊎ PutsReportPart n holds told before after → PutsNothing words held holds told before after ⊥ ⊎ PutsPart words held holds told before after
+  sample_memory before after (inl p) = inl (sample_nothing before after ⊥ p)
+  sample_memory before after (inr p) = inr (sample_put before after p)
+
+  pub sample_does : (before after : List ℕ) (answer : Status) → IsSampleRun n held holds told before after start_failed answer → IsRun words held holds told before after start_failed answer
+  sample_does before after status.Complete p = record { text = p.text; due = sampled n status.Complete p.text asked p.due; put = p.put }
+  sample_does before after status.Limit p = record { text = p.text; due = sampled n status.Limit p.text asked p.due; put = p.put }
+  sample_does before after status.Refused p = absurd p
+  sample_does before after status.No p = absurd p
+  sample_does before after status.FilesFault p = sample_nothing before after start_failed p
+  sample_does before after status.OutFault p = sample_put before after p
+  sample_does before after status.Usage p = absurd p
+  sample_does before after status.NoMemory p = sample_memory before after p
 
 pub whole_status : (answer : SolveEnd) → IsWholeUnlessFailed answer → IsWholeAnswer (solve_status answer)
 whole_status (solve.Done (Complete count)) h = h
@@ -258,10 +316,8 @@ renamed_check asked file file' list list' log log' is same_file same_list same_l
 
 -- ---- searches that can come to their end
 
--- words without a log ask for none
-pub no_search : (words : List (List ℕ)) (held : List ℕ → Option (List ℕ)) (answered : Status) (asked : Option Job) → job_of words ≡ asked → log_of asked ≡ None → Completes words held answered
+-- words that ask for no search ask for none to be whole
+pub no_search : (words : List (List ℕ)) (held : List ℕ → Option (List ℕ)) (answered : Status) (asked : Option Job) → job_of words ≡ asked → (IsSearch asked → ⊥) → Completes words held answered
 no_search words held answered asked is none = record {
-  whole = λ file log bounds theory other solvable can.
-      let clash : Some log ≡ None = ap log_of (sym other ∙ is) ∙ none in
-      absurd (cc);
+  whole = λ file log bounds theory other solvable can. absurd (other_kind IsSearch asked (Some (job.Solve file log bounds)) words is none other tt);
 }

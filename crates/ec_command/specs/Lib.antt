@@ -1,4 +1,9 @@
 pub mod Status
 pub mod Words
-pub mod Run
 pub mod Ends
+pub mod LastLine
+pub mod Sample
+pub mod Faults
+pub mod SampleRun
+pub mod Stages
+pub mod Run

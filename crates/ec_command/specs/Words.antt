@@ -1,5 +1,5 @@
 -- The job of the words, if they are one.
-use Rattle.std.specs.Prelude.{ℕ, ◌≡◌, Bool, ◌&&◌, ◌||◌, nat_le, codes, decimal, List, [], ◌∷◌, Option, Some, None, option_map, if◌then◌else◌}
+use Rattle.std.specs.Prelude.{ℕ, ◌≡◌, ◌≤◌, Bool, ◌&&◌, ◌||◌, nat_le, codes, decimal, List, [], ◌∷◌, Option, Some, None, option_map, if◌then◌else◌}
 use Rattle.std.specs.List.{list_all}
 use Rattle.std.specs.Option.{option_and_then}
 use Rattle.std.specs.Str.{bytes_eq}
@@ -40,6 +40,10 @@ setting usual most [] = Some usual
 setting usual most (word ∷ []) = number_of most word
 setting usual most (word ∷ again ∷ words) = None
 
+-- the bounds of a search whose words set none
+abbrev pub usual_bounds : Bounds
+usual_bounds = record { models = 1000; conflicts = 200000 }
+
 -- the bounds with these numbers
 abbrev pub bounds_with : Option ℕ → Option ℕ → Option Bounds
 bounds_with (Some models) (Some conflicts) = Some (record { models = models; conflicts = conflicts })
@@ -61,8 +65,16 @@ abbrev pub check_of : List ℕ → List ℕ → List ℕ → List (List ℕ) →
 check_of command file list (log ∷ []) = if bytes_eq command (codes "check") then Some (job.Check file list log) else None
 check_of command file list _ = None
 
+-- the job of a command and one word
+abbrev pub short_job_of : List ℕ → List ℕ → Option Job
+short_job_of command word =
+    if bytes_eq command (codes "list") then Some (job.List word)
+    else if bytes_eq command (codes "show") then Some (job.Show word)
+    else if bytes_eq command (codes "sample") then option_map (λ n. job.Sample n) (number_of 40 word)
+    else None
+
 abbrev pub job_of : List (List ℕ) → Option Job
-job_of (command ∷ file ∷ []) = if bytes_eq command (codes "list") then Some (job.List file) else if bytes_eq command (codes "show") then Some (job.Show file) else None
+job_of (command ∷ word ∷ []) = short_job_of command word
 job_of (command ∷ file ∷ log ∷ options) = if bytes_eq command (codes "solve") then option_map (λ bounds. job.Solve file log bounds) (bounds_of options) else check_of command file log options
 job_of _ = None
 
@@ -71,9 +83,15 @@ abbrev pub IsNoJob : List (List ℕ) → JobFault → Type 0
 IsNoJob words fault.Usage = job_of words ≡ None
 IsNoJob words fault.Memory = Unit {0}
 
--- the bounds of a solve job are those that a search may have
+-- a sample has from 1 to 40 steps
+pub record IsSteps (n : ℕ) : Type 0 where
+  pub some : 1 ≤ n
+  pub few : n ≤ 40
+
+-- the bounds of a solve job are those that a search may have, and the steps of a sample job those that a sample may have
 abbrev pub HasBounds : Job → Type 0
 HasBounds (job.List file) = Unit {0}
 HasBounds (job.Solve file log bounds) = AreBounds bounds
 HasBounds (job.Check file list log) = Unit {0}
 HasBounds (job.Show file) = Unit {0}
+HasBounds (job.Sample n) = IsSteps n

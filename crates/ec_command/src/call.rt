@@ -1,11 +1,12 @@
 //! The top call.
-ghost use Rattle.std.specs.Prelude.{◌≡◌, ◌≢◌, ◌≤◌, List, ℕ, Option, Some, None, map, IsTrue};
+ghost use Rattle.std.specs.Prelude.{◌≡◌, ◌≤◌, List, ℕ, Option, Some, None, map, IsTrue};
 ghost use Rattle.std.specs.String.{string_bytes};
 ghost use Rattle.ec_edge.specs.Causes.{Rose};
-ghost use Rattle.ec_command.specs.Run.{Completes, IsRun, IsNoJobAnswer, PutsRefusal, log_of};
+ghost use Rattle.ec_command.specs.Run.{Completes, IsRun, IsNoJobAnswer, PutsRefusal, Writes};
 ghost use Rattle.ec_command.specs.Words.{job_of, HasBounds};
 
 use crate::ends::{check_status, list_status, show_status, solve_status};
+use crate::sampling::sample_run;
 use crate::status::Status;
 use crate::words::{Job, JobFault, read_words};
 use ec_edge::{Files, Sink, SinkFault, put_text};
@@ -37,7 +38,7 @@ fn do_job<F: Files, O: Sink>(alloc: Global, job: &Job, files: &mut F, out: &mut 
     ensures no_usage { result ≡ Status.Usage → ⊥ }
     ensures refused { result ≡ Status.Refused →
         PutsRefusal (O.tells out.old) (O.bytes out.old) (O.bytes out.new) (F.absences files.old) (F.absences files.new) }
-    ensures stays { (name : List ℕ) → log_of (Some job.now) ≢ Some name → F.held files.new name ≡ F.held files.old name }
+    ensures stays { (name : List ℕ) → (Writes (Some job.now) name → ⊥) → F.held files.new name ≡ F.held files.old name }
     ensures tells { F.tells files.new ≡ F.tells files.old }
     ensures faults { F.faults files.old ≤ F.faults files.new }
     ensures absences { F.absences files.old ≤ F.absences files.new }
@@ -57,6 +58,7 @@ fn do_job<F: Files, O: Sink>(alloc: Global, job: &Job, files: &mut F, out: &mut 
             check_status(&end)
         }
         Job::Show { file } => show_status(&show(alloc, files, file.text(), out)),
+        Job::Sample { n } => sample_run(alloc, *n, files, out),
     }
 }
 
@@ -66,12 +68,18 @@ fn do_job<F: Files, O: Sink>(alloc: Global, job: &Job, files: &mut F, out: &mut 
 /// files, and what the log of a `solve` holds then; and where the sink tells its bytes, what was put:
 /// the text that is due with the status, and the log that is due with it; a prefix of the text and
 /// the whole log; or nothing and a prefix of the log, unless a start of it failed, which the count of
-/// failed starts tells. All other names hold what they held. For a `check`, Complete comes only where the
+/// failed starts tells. For a `check`, Complete comes only where the
 /// list is exactly the file's narratives, whoever wrote it: each is that of a minimal model of what the
 /// file says, and each minimal model has its narrative there. Limit comes only where all of its
 /// narratives are those of minimal models, and No tells what is wrong first with the list or the log.
-/// The other clauses give the cause of each fault, and what is put for words that are no job, over any
-/// files and sink.
+///
+/// A `sample` is done by [`sample_run`](crate::sample_run), and what that says of it is said here too:
+/// Complete and Limit are the endings of its search, the three names that it writes hold the text of the
+/// number, a list and a log, and what is due for the search and for the check holds of them; after a fault
+/// or want of memory each holds its text, a prefix of it, or what it held, unless a start of it failed.
+///
+/// All names but the log of a `solve` and the three names of a `sample` hold what they held. The other
+/// clauses give the cause of each fault, and what is put for words that are no job, over any files and sink.
 pub fn run<F: Files, O: Sink>(alloc: Global, words: &[String], files: &mut F, out: &mut O) -> Status
     ensures put { IsTrue (F.tells files.old) →
         IsRun (map string_bytes words.now) (F.held files.old) (F.held files.new) (O.tells out.old) (O.bytes out.old) (O.bytes out.new)
@@ -85,8 +93,8 @@ pub fn run<F: Files, O: Sink>(alloc: Global, words: &[String], files: &mut F, ou
     ensures refused { result ≡ Status.Refused →
         PutsRefusal (O.tells out.old) (O.bytes out.old) (O.bytes out.new) (F.absences files.old) (F.absences files.new) }
 
-    // Every name but the log of a `solve` holds what it held.
-    ensures stays { (name : List ℕ) → log_of (job_of (map string_bytes words.now)) ≢ Some name → F.held files.new name ≡ F.held files.old name }
+    // Every name but the log of a `solve` and the three names of a `sample` holds what it held.
+    ensures stays { (name : List ℕ) → (Writes (job_of (map string_bytes words.now)) name → ⊥) → F.held files.new name ≡ F.held files.old name }
 
     // What told what it holds or has still does, and no count falls, so that another call can follow.
     ensures tells { F.tells files.new ≡ F.tells files.old }

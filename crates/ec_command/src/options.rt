@@ -1,8 +1,8 @@
-//! The options of `solve`: the bounds of its search.
+//! The numbers among the words: the bounds of a search, and the steps of a sample.
 ghost use Rattle.std.specs.Prelude.{◌≡◌, ◌≤◌, IfSome, MatchOption, None, map};
 ghost use Rattle.std.specs.String.{string_bytes};
 ghost use Rattle.ec_engine.specs.Solve.{AreBounds};
-ghost use Rattle.ec_command.specs.Words.{bounds_of, number_of};
+ghost use Rattle.ec_command.specs.Words.{bounds_of, number_of, usual_bounds, IsSteps};
 
 use ec_edge::read_number;
 use ec_engine::Bounds;
@@ -15,6 +15,20 @@ const DEFAULT_MODELS: u64 = 1_000;
 
 const DEFAULT_CONFLICTS: u64 = 200_000;
 
+/// The number of steps that a sample has at most.
+const MOST_STEPS: u64 = 40;
+
+/// The bounds of a search whose words set none.
+pub fn default_bounds() -> Bounds
+    ensures is { result ≡ usual_bounds }
+    ensures within { AreBounds result }
+{
+    Bounds {
+        models: DEFAULT_MODELS,
+        conflicts: DEFAULT_CONFLICTS,
+    }
+}
+
 /// The number from 1 to the most whose decimal text a word is, without a sign or a leading zero.
 fn read_within(word: &str, most: u64) -> Option<u64>
     ensures is { result ≡ number_of most word.now }
@@ -26,6 +40,15 @@ fn read_within(word: &str, most: u64) -> Option<u64>
     } else {
         None
     }
+}
+
+/// The number of steps of a sample.
+pub fn read_steps(word: &str) -> Option<u32>
+    ensures is { result ≡ number_of 40 word.now }
+    ensures within { IfSome result (λ n. IsSteps n) }
+{
+    let steps = read_within(word, MOST_STEPS)?;
+    Some(steps as u32)
 }
 
 /// The number of an option, unless it was read before.

@@ -3,7 +3,7 @@ ghost use Rattle.std.specs.Prelude.{◌≡◌, Some, None, map, IfOk, MatchResul
 ghost use Rattle.std.specs.String.{string_bytes};
 ghost use Rattle.ec_command.specs.Words.{check_of, job_of, HasBounds, IsNoJob};
 
-use crate::options::read_bounds;
+use crate::options::{read_bounds, read_steps};
 use ec_engine::Bounds;
 use ec_lex::word::Word;
 use std::alloc::Global;
@@ -30,6 +30,10 @@ pub enum Job {
     /// How large the theory of a file is.
     Show {
         file: Word,
+    },
+    /// A valid input of so many steps, from 1 to 40, solved and checked.
+    Sample {
+        n: u32,
     },
 }
 
@@ -72,10 +76,11 @@ fn read_check(
 }
 
 /// The job of the words behind the program's name: `list FILE`, `solve FILE LOG` and then
-/// `--models N` and `--conflicts N`, each at most once and in any order, `check FILE OUT LOG`, or
-/// `show FILE`.
+/// `--models N` and `--conflicts N`, each at most once and in any order, `check FILE OUT LOG`,
+/// `show FILE`, or `sample N`.
 ///
-/// The names of files are taken as they stand.
+/// The names of files are taken as they stand. A number is a plain decimal without a sign or a
+/// leading zero.
 pub fn read_words(alloc: Global, words: &[String]) -> Result<Job, JobFault>
     ensures job { MatchResult result (λ job. job_of (map string_bytes words.now) ≡ Some job) (λ fault. IsNoJob (map string_bytes words.now) fault) }
     ensures bounds { IfOk result (λ job. HasBounds job) }
@@ -87,6 +92,10 @@ pub fn read_words(alloc: Global, words: &[String]) -> Result<Job, JobFault>
         [command, file] if command.as_str() == "show" => Ok(Job::Show {
             file: name(alloc, file)?,
         }),
+        [command, steps] if command.as_str() == "sample" => {
+            let n = read_steps(steps).ok_or(JobFault::Usage)?;
+            Ok(Job::Sample { n })
+        }
         [command, file, log, options @ ..] if command.as_str() == "solve" => {
             let bounds = read_bounds(options).ok_or(JobFault::Usage)?;
             Ok(Job::Solve {

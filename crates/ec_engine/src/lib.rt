@@ -26,5 +26,6 @@ pub use checking::{CheckEnd, check};
 pub use ec_evidence::{Part, Reason};
 pub use ec_solve::Bounds;
 pub use listing::{ListEnd, list};
-pub use showing::{Counts, ShowEnd, show};
+pub use refusals::refuse;
+pub use showing::{Counts, ShowEnd, push_count, show};
 pub use solving::{SolveEnd, solve};

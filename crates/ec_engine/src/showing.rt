@@ -69,8 +69,8 @@ fn shown(put: Result<(), SinkFault>, counts: Counts) -> ShowEnd
     }
 }
 
-/// Adds a line with a name and a number.
-fn push_count(out: &mut Vec<u8>, name: &[u8], n: u64) -> Result<(), AllocError>
+/// Adds a line with a name and a number to a text.
+pub fn push_count(out: &mut Vec<u8>, name: &[u8], n: u64) -> Result<(), AllocError>
     ensures { OnOk result (out.new.items ≡ out.old.items ++ count_line name.now n) }
 {
     out.extend_from_slice(name)?;

@@ -4,8 +4,8 @@ use Rattle.ec_command.specs.declared.status.Status.{Status}
 use Rattle.ec_command.specs.declared.words.Job.{Job}
 use Rattle.ec_command.specs.declared.words.Job.TheVariants as job
 use Rattle.ec_command.specs.Words.{job_of}
-use Rattle.ec_command.specs.Run.{IsRun, IsWholeAnswer, log_of}
-use Rattle.ec_command.proofs.Runs.{check_run, check_refused_end, renamed_check, list_run, list_refused_end, show_run, show_refused_end, solve_run, solve_refused_end, one_job, renamed, whole_job, no_search}
+use Rattle.ec_command.specs.Run.{IsRun, IsWholeAnswer}
+use Rattle.ec_command.proofs.Runs.{check_run, check_refused_end, renamed_check, list_run, list_refused_end, show_run, show_refused_end, solve_run, solve_refused_end, sample_does, one_job, renamed, whole_job, no_search}
 use Rattle.ec_command.proofs.call.do_job.Goals as goal
 
 pub returns-in-List-clause-put : goal.returns-in-List-clause-put
@@ -62,10 +62,17 @@ returns-in-Check-clause-refused g c = λ is.
     record { refusal = w.0; put = λ shown. c.check-end.ensures.line shown w.0 w.1; absent = c.check-end.ensures.absent w.0 w.1 }
 
 pub returns-in-Check-clause-completes : goal.returns-in-Check-clause-completes
-returns-in-Check-clause-completes g c = λ told words is. no_search words (g.F.Files.held c.args.files.now) c.check_status.result (Some c.args.job.now) is (ap (λ (j : Job). log_of (Some j)) c.in-Check.is)
+returns-in-Check-clause-completes g c = λ told words is. no_search words (g.F.Files.held c.args.files.now) c.check_status.result (Some c.args.job.now) is (rw c.in-Check.is (λ p. p))
 
 pub returns-in-List-clause-completes : goal.returns-in-List-clause-completes
-returns-in-List-clause-completes g c = λ told words is. no_search words (g.F.Files.held c.args.files.now) c.list_status.result (Some c.args.job.now) is (ap (λ (j : Job). log_of (Some j)) c.in-List.is)
+returns-in-List-clause-completes g c = λ told words is. no_search words (g.F.Files.held c.args.files.now) c.list_status.result (Some c.args.job.now) is (rw c.in-List.is (λ p. p))
 
 pub returns-in-Show-clause-completes : goal.returns-in-Show-clause-completes
-returns-in-Show-clause-completes g c = λ told words is. no_search words (g.F.Files.held c.args.files.now) c.show_status.result (Some c.args.job.now) is (ap (λ (j : Job). log_of (Some j)) c.in-Show.is)
+returns-in-Show-clause-completes g c = λ told words is. no_search words (g.F.Files.held c.args.files.now) c.show_status.result (Some c.args.job.now) is (rw c.in-Show.is (λ p. p))
+
+pub returns-in-Sample-clause-put : goal.returns-in-Sample-clause-put
+returns-in-Sample-clause-put g c = λ told words asked.
+    sample_does words (g.F.Files.held c.args.files.now) (g.F.Files.held c.sample_run.new.files) (g.O.Sink.tells c.args.out.now) (Rose (g.F.Files.failed_starts c.args.files.now) (g.F.Files.failed_starts c.sample_run.new.files)) c.in-Sample.n (asked ∙ ap Some c.in-Sample.is) (g.O.Sink.bytes c.args.out.now) (g.O.Sink.bytes c.sample_run.new.out) c.sample_run.result (c.sample_run.ensures.put told)
+
+pub returns-in-Sample-clause-completes : goal.returns-in-Sample-clause-completes
+returns-in-Sample-clause-completes g c = λ told words is. no_search words (g.F.Files.held c.args.files.now) c.sample_run.result (Some c.args.job.now) is (rw c.in-Sample.is (λ p. p))

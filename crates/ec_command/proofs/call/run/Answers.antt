@@ -11,7 +11,7 @@ returns-in-Err-Usage-clause-put g c = λ told.
 
 pub returns-in-Err-Usage-clause-completes : goal.returns-in-Err-Usage-clause-completes
 returns-in-Err-Usage-clause-completes g c = λ told.
-    no_search (map string_bytes c.args.words.now) (g.F.Files.held c.args.files.now) c.usage.result None (rw c.in-Err-Usage.field-0-is at c.in-Err-Usage.ensures.job) refl
+    no_search (map string_bytes c.args.words.now) (g.F.Files.held c.args.files.now) c.usage.result None (rw c.in-Err-Usage.field-0-is at c.in-Err-Usage.ensures.job) (λ p. p)
 
 pub returns-in-Err-Memory-clause-completes : goal.returns-in-Err-Memory-clause-completes
 returns-in-Err-Memory-clause-completes g c = λ told. record { whole = λ file log bounds theory asked solvable can. tt }
