@@ -1,5 +1,5 @@
 //! Terms and formulas by numbers.
-ghost use Rattle.std.specs.Prelude.{◌≡◌, ◌≤◌, ◌+◌, IfOk, length};
+ghost use Rattle.std.specs.Prelude.{◌≡◌, ◌≤◌, ◌+◌, IfOk, length, pos};
 ghost use Rattle.std.specs.List.{position_or_len};
 ghost use Rattle.std.specs.Str.{bytes_eq};
 ghost use Rattle.ec_logic.specs.Tree as tree;
@@ -48,33 +48,43 @@ fn variable(scope: &[&Word], name: &Word) -> Term
     Term::Variable(place(scope, name) as u32)
 }
 
+// The term with its sign turned.
+fn negative(alloc: Global, of: Box<Term>) -> Result<Term, AllocError>
+    ensures { IfOk result (λ t. view.term_tree t ≡ tree.difference (tree.int (pos 0)) (view.term_tree of.value)) }
+{
+    Ok(Term::Difference(Box::new(alloc, Term::Int(0))?, of))
+}
+
 /// A term by numbers, in whose place these variables are bound.
 #[cycle(term_tree)]
 fn term_tree(alloc: Global, names: &Names, scope: &[&Word], term: &Arg) -> Result<Term, AllocError>
     requires { length (words scope.now) ≤ binder_limit }
     ensures { IfOk result (λ t. view.term_tree t ≡ spec.term_tree names.now (words scope.now) (term_of term.now)) }
 {
-    Ok(match term {
-        Arg::Name { name, args } => applied(names, name, term_trees(alloc, names, scope, args)?),
-        Arg::Variable(name) => variable(scope, name),
-        Arg::Number(n) => Term::Int(i64::from(*n)),
-        Arg::Sum(a, b) => Term::Sum(
-            boxed_term_tree(alloc, names, scope, a)?,
-            boxed_term_tree(alloc, names, scope, b)?,
-        ),
-        Arg::Difference(a, b) => Term::Difference(
-            boxed_term_tree(alloc, names, scope, a)?,
-            boxed_term_tree(alloc, names, scope, b)?,
-        ),
-        Arg::Product(a, b) => Term::Product(
-            boxed_term_tree(alloc, names, scope, a)?,
-            boxed_term_tree(alloc, names, scope, b)?,
-        ),
-        Arg::Negative(a) => Term::Difference(
-            Box::new(alloc, Term::Int(0))?,
-            boxed_term_tree(alloc, names, scope, a)?,
-        ),
-    })
+    match term {
+        Arg::Name { name, args } => {
+            let args = term_trees(alloc, names, scope, args)?;
+            Ok(applied(names, name, args))
+        }
+        Arg::Variable(name) => Ok(variable(scope, name)),
+        Arg::Number(n) => Ok(Term::Int(i64::from(*n))),
+        Arg::Sum(a, b) => {
+            let (a, b) = both_boxed_term_trees(alloc, names, scope, a, b)?;
+            Ok(Term::Sum(a, b))
+        }
+        Arg::Difference(a, b) => {
+            let (a, b) = both_boxed_term_trees(alloc, names, scope, a, b)?;
+            Ok(Term::Difference(a, b))
+        }
+        Arg::Product(a, b) => {
+            let (a, b) = both_boxed_term_trees(alloc, names, scope, a, b)?;
+            Ok(Term::Product(a, b))
+        }
+        Arg::Negative(a) => {
+            let a = boxed_term_tree(alloc, names, scope, a)?;
+            negative(alloc, a)
+        }
+    }
 }
 
 #[cycle(term_tree)]
@@ -88,6 +98,41 @@ fn boxed_term_tree(
     ensures { IfOk result (λ t. view.term_tree t.value ≡ spec.term_tree names.now (words scope.now) (term_of term.now)) }
 {
     Ok(Box::new(alloc, term_tree(alloc, names, scope, term)?)?)
+}
+
+#[cycle(term_tree)]
+fn both_boxed_term_trees(
+    alloc: Global,
+    names: &Names,
+    scope: &[&Word],
+    a: &Arg,
+    b: &Arg,
+) -> Result<(Box<Term>, Box<Term>), AllocError>
+    requires { length (words scope.now) ≤ binder_limit }
+    ensures first { IfOk result (λ r. view.term_tree r.0.value ≡ spec.term_tree names.now (words scope.now) (term_of a.now)) }
+    ensures second { IfOk result (λ r. view.term_tree r.1.value ≡ spec.term_tree names.now (words scope.now) (term_of b.now)) }
+{
+    Ok((
+        boxed_term_tree(alloc, names, scope, a)?,
+        boxed_term_tree(alloc, names, scope, b)?,
+    ))
+}
+
+fn both_term_trees(
+    alloc: Global,
+    names: &Names,
+    scope: &[&Word],
+    a: &Arg,
+    b: &Arg,
+) -> Result<(Term, Term), AllocError>
+    requires { length (words scope.now) ≤ binder_limit }
+    ensures first { IfOk result (λ r. view.term_tree r.0 ≡ spec.term_tree names.now (words scope.now) (term_of a.now)) }
+    ensures second { IfOk result (λ r. view.term_tree r.1 ≡ spec.term_tree names.now (words scope.now) (term_of b.now)) }
+{
+    Ok((
+        term_tree(alloc, names, scope, a)?,
+        term_tree(alloc, names, scope, b)?,
+    ))
 }
 
 #[cycle(term_tree)]
@@ -206,47 +251,42 @@ pub(crate) fn formula_tree<'a>(
     requires nested { IsNested (length (words scope.now)) (formula_of tree.now) }
     ensures { IfOk result (λ f. view.formula_tree f ≡ spec.formula_tree names.now (words scope.now) (formula_of tree.now)) }
 {
-    Ok(match tree {
-        Tree::Atom { name, args } => Formula::Atom {
-            predicate: symbol_place(names, name),
-            args: term_trees(alloc, names, scope, args)?,
-        },
-        Tree::Compare { op, left, right } => comparison(
-            alloc,
-            *op,
-            term_tree(alloc, names, scope, left)?,
-            term_tree(alloc, names, scope, right)?,
-        )?,
-        Tree::Not(a) => Formula::Not(boxed_formula_tree(alloc, names, scope, a)?),
-        Tree::And(parts) => Formula::And(formula_trees(alloc, names, scope, parts)?),
-        Tree::Or(parts) => Formula::Or(formula_trees(alloc, names, scope, parts)?),
-        Tree::Implies(a, b) => Formula::Implies(
-            boxed_formula_tree(alloc, names, scope, a)?,
-            boxed_formula_tree(alloc, names, scope, b)?,
-        ),
-        Tree::Iff(a, b) => Formula::Iff(
-            boxed_formula_tree(alloc, names, scope, a)?,
-            boxed_formula_tree(alloc, names, scope, b)?,
-        ),
+    match tree {
+        Tree::Atom { name, args } => {
+            let args = term_trees(alloc, names, scope, args)?;
+            let predicate = symbol_place(names, name);
+            Ok(Formula::Atom { predicate, args })
+        }
+        Tree::Compare { op, left, right } => {
+            let (left, right) = both_term_trees(alloc, names, scope, left, right)?;
+            comparison(alloc, *op, left, right)
+        }
+        Tree::Not(a) => Ok(Formula::Not(boxed_formula_tree(alloc, names, scope, a)?)),
+        Tree::And(parts) => Ok(Formula::And(formula_trees(alloc, names, scope, parts)?)),
+        Tree::Or(parts) => Ok(Formula::Or(formula_trees(alloc, names, scope, parts)?)),
+        Tree::Implies(a, b) => {
+            let (a, b) = both_boxed_formula_trees(alloc, names, scope, a, b)?;
+            Ok(Formula::Implies(a, b))
+        }
+        Tree::Iff(a, b) => {
+            let (a, b) = both_boxed_formula_trees(alloc, names, scope, a, b)?;
+            Ok(Formula::Iff(a, b))
+        }
         Tree::ForAll {
             names: variables,
             scope: body,
-        } => every(
-            alloc,
-            names,
-            variables,
-            formula_tree_under(alloc, names, scope, variables, body)?,
-        )?,
+        } => {
+            let body = formula_tree_under(alloc, names, scope, variables, body)?;
+            every(alloc, names, variables, body)
+        }
         Tree::Exists {
             names: variables,
             scope: body,
-        } => some(
-            alloc,
-            names,
-            variables,
-            formula_tree_under(alloc, names, scope, variables, body)?,
-        )?,
-    })
+        } => {
+            let body = formula_tree_under(alloc, names, scope, variables, body)?;
+            some(alloc, names, variables, body)
+        }
+    }
 }
 
 #[cycle(formula_tree)]
@@ -261,6 +301,26 @@ fn boxed_formula_tree<'a>(
     ensures { IfOk result (λ f. view.formula_tree f.value ≡ spec.formula_tree names.now (words scope.now) (formula_of tree.now)) }
 {
     Ok(Box::new(alloc, formula_tree(alloc, names, scope, tree)?)?)
+}
+
+#[cycle(formula_tree)]
+fn both_boxed_formula_trees<'a>(
+    alloc: Global,
+    names: &Names,
+    scope: &[&'a Word],
+    a: &'a Tree,
+    b: &'a Tree,
+) -> Result<(Box<Formula>, Box<Formula>), AllocError>
+    requires room { length (words scope.now) ≤ binder_limit }
+    requires first { IsNested (length (words scope.now)) (formula_of a.now) }
+    requires second { IsNested (length (words scope.now)) (formula_of b.now) }
+    ensures first { IfOk result (λ r. view.formula_tree r.0.value ≡ spec.formula_tree names.now (words scope.now) (formula_of a.now)) }
+    ensures second { IfOk result (λ r. view.formula_tree r.1.value ≡ spec.formula_tree names.now (words scope.now) (formula_of b.now)) }
+{
+    Ok((
+        boxed_formula_tree(alloc, names, scope, a)?,
+        boxed_formula_tree(alloc, names, scope, b)?,
+    ))
 }
 
 #[cycle(formula_tree)]

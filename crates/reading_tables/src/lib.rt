@@ -1,17 +1,5 @@
-//! What the lexer and the parser read of texts, worked by hand. It holds tests alone.
+//! How small a token is, which no file can say. It holds a test alone.
 #![tactic(auto)]
 
 #[cfg(test)]
-mod contents;
-#[cfg(test)]
-mod edges;
-#[cfg(test)]
-mod faulty;
-#[cfg(test)]
-mod read;
-#[cfg(test)]
-mod readings;
-#[cfg(test)]
 mod tokens;
-#[cfg(test)]
-mod trees;

@@ -1,0 +1,58 @@
+//! Runs the cases of case files: words over files in memory, and what must come of them.
+//!
+//! Its words are the names of the case files. It prints each case that differs, with what was wanted and what came,
+//! and then how many cases and runs each file has. docs/ARCHITECTURE.md says how a case is written.
+#![tactic(auto)]
+
+mod bytes;
+mod case;
+mod comparing;
+mod files;
+mod lines;
+mod misread;
+mod pieces;
+mod reading;
+mod report;
+mod runner;
+mod sink;
+mod sweeps;
+mod trial;
+
+use crate::reading::{Misplaced, cases};
+use crate::report::Report;
+use crate::runner::run_cases;
+use std::rt::{Env, Files};
+use std::{env, fs, io};
+
+/// How many cases and runs there were.
+#[derive(Clone, Copy)]
+struct Counts {
+    cases: u32,
+    runs: u32,
+}
+
+/// Runs the cases of one file, and prints what differs, and the counts.
+fn run_file<R: Files + Print + AllocGlobal>(rt: &R, name: &str) -> io::Result<Counts> {
+    let alloc = rt.alloc();
+    let text = fs::read_to_string(rt, name)?;
+    let mut report = Report::new(alloc, name)?;
+    match cases(alloc, &text) {
+        Ok(cases) => run_cases(alloc, &mut report, &cases)?,
+        Err(Misplaced { line, why }) => println!(rt; "{name}:{line}: {why}")?,
+    }
+    let Report { cases, runs, .. } = report;
+    print!(rt; "{}", report.differences)?;
+    println!(rt; "{name}: {cases} cases, {runs} runs")?;
+    Ok(Counts { cases, runs })
+}
+
+fn main(rt: HostRuntime) -> io::Result<()> {
+    let mut all = Counts { cases: 0, runs: 0 };
+    for name in env::args(&rt)?.skip(1) {
+        let counts = run_file(&rt, &name)?;
+        all.cases = all.cases.saturating_add(counts.cases);
+        all.runs = all.runs.saturating_add(counts.runs);
+    }
+    let Counts { cases, runs } = all;
+    println!(rt; "{cases} cases, {runs} runs")
+}
