@@ -12,3 +12,5 @@ pub mod Marks
 pub mod Blocking
 pub mod Solving
 pub mod Heaps
+pub mod Knowing
+pub mod Listed

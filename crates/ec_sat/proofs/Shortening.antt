@@ -1,20 +1,19 @@
 -- literals dropped from a derived clause
-use Rattle.std.proofs.Common.{◌≡◌, ◌≢◌, ℕ, ◌+◌, ◌-◌, ◌<◌, ◌≤◌, Bool, true, false, List, [], ◌∷◌, ◌++◌, Option, Some, None, length, take, get_or, set, replicate, refl, sym, ap, ◌∙◌, subst, inl, inr, arith}
+use Rattle.std.proofs.Common.{◌≡◌, ◌≢◌, ℕ, ◌+◌, ◌<◌, ◌≤◌, Bool, false, List, [], ◌∷◌, ◌++◌, Some, None, length, take, get_or, set, replicate, sym, ap, ◌∙◌, subst, inl, inr, arith}
 use Rattle.std.proofs.lemmas.Bool.{cases_lt, cases_eq, true≢false, cond-true}
 use Rattle.std.proofs.lemmas.List.{length-set, length-replicate, get_or-set_same, get_or-set_other, get_or_default, reverse-append, length-append, length-reverse}
 use Rattle.std.proofs.lemmas.Option.{get_or_from_slice_get}
 use Rattle.std.specs.Prelude.{reverse, slice_get, option_map}
-use Rattle.ec_clause.specs.Literal.{Literal}
-use Rattle.ec_clause.specs.ClauseList.{ClauseList, clause_at, IsClause}
-use Rattle.ec_clause.specs.Truth.{Truth, agree, literal_value, with_true, unit_literal}
+use Rattle.ec_clause.specs.ClauseList.{ClauseList, clause_at}
+use Rattle.ec_clause.specs.Truth.{Truth, agree, with_true, unit_literal}
 use Rattle.ec_clause.specs.Step.{is_known, unit_or, go_on, hints_fault, all_false, IsStep}
 use Rattle.ec_clause.proofs.StepLemmas.{fault_more, known, nothing}
 use Rattle.ec_trail.specs.declared.trail.Entry.{Entry}
 use Rattle.ec_trail.specs.TrailList.{values_of, IsTrail}
 use Rattle.ec_trail.proofs.BackTo.{some_entry}
 use Rattle.ec_sat.specs.Reasons.{AreReasons, left_of}
-use Rattle.ec_sat.specs.Stops.{Fits, Agrees, StopsAt, IsAsserting, AllMarked}
-use Rattle.ec_sat.proofs.Walk.{unit_moves, sign_false, false_before, same_place, same_at, apart, built, falses-length}
+use Rattle.ec_sat.specs.Stops.{Agrees, StopsAt, IsAsserting, AllMarked}
+use Rattle.ec_sat.proofs.Walk.{unit_moves, sign_false, false_before, same_place, apart, built, falses-length}
 
 -- where the walk stopped nothing is dropped yet
 pub asserts : (c : ClauseList) (n : ℕ) (es : List Entry) (m : List Bool) (hints : List ℕ) (place : ℕ) → StopsAt c n es m hints place → IsAsserting c n es m hints place place
@@ -31,9 +30,9 @@ asserts c n es m hints place stops = record {
   alone = stops.alone;
 }
 
--- a literal that is left, or that is in the clause no more
-pub asserts_skip : (c : ClauseList) (n : ℕ) (es : List Entry) (m : List Bool) (hints : List ℕ) (place k : ℕ) → IsAsserting c n es m hints place k → IsAsserting c n es m hints place (k - 1)
-asserts_skip c n es m hints place k old = record {
+-- literals that are left, or that are in the clause no more
+pub asserts_down : (c : ClauseList) (n : ℕ) (es : List Entry) (m : List Bool) (hints : List ℕ) (place k j : ℕ) → j ≤ k → IsAsserting c n es m hints place k → IsAsserting c n es m hints place j
+asserts_down c n es m hints place k j less old = record {
   in_range = old.in_range;
   some = old.some;
   above = old.above;
@@ -85,13 +84,11 @@ unit_by c n es m j r d p trail reasons size lj is all agrees =
     sign_false l.positive (get_or p l.variable None) (rw b.2 at (rw b.3 at value))) (ap (option_map (agree e.lit.positive)) none) (reasons.unit j r d lj is)
 
 -- a literal is dropped, and its reason named
-pub asserts_less : (c : ClauseList) (n : ℕ) (es : List Entry) (m : List Bool) (hints hints' : List ℕ) (place k v r : ℕ) (e : Entry) → IsTrail n es → AreReasons c n es → length m ≡ n + 1 → 0 < k → k ≤ place → slice_get es (k - 1) ≡ Some e → v ≡ e.lit.variable → e.reason ≡ Some r → AllMarked m (clause_at c r) → hints' ≡ hints ++ r ∷ [] → IsAsserting c n es m hints place k → IsAsserting c n es (set m v false) hints' place (k - 1)
-asserts_less c n es m hints hints' place k v r e trail reasons size low high at var is all more old =
-    let j = k - 1 in
+pub asserts_drop : (c : ClauseList) (n : ℕ) (es : List Entry) (m : List Bool) (hints hints' : List ℕ) (place j v r : ℕ) (e : Entry) → IsTrail n es → AreReasons c n es → length m ≡ n + 1 → j < place → slice_get es j ≡ Some e → v ≡ e.lit.variable → e.reason ≡ Some r → AllMarked m (clause_at c r) → hints' ≡ hints ++ r ∷ [] → IsAsserting c n es m hints place (j + 1) → IsAsserting c n es (set m v false) hints' place j
+asserts_drop c n es m hints hints' place j v r e trail reasons size below at var is all more old =
     let lj : j < length es = omega (arith, old.in_range) in
     let here : get_or es j e ≡ e = get_or_from_slice_get es j e e at in
     let same : v ≡ (get_or es j e).lit.variable = var ∙ ap (λ (x : Entry). x.lit.variable) (sym here) in
-    let up : k ≡ j + 1 = omega arith in
     let order : reverse hints' ≡ r ∷ reverse hints = ap reverse more ∙ reverse-append hints (r ∷ []) in
     let is' : (get_or es j e).reason ≡ Some r = ap (λ (x : Entry). x.reason) here ∙ is in
     let far : (i : ℕ) (d : Entry) → i < length es → i ≢ j → (get_or es i d).lit.variable ≢ v = λ i d lt ne. rw (get_or_default es i d e lt, same) (apart n es trail i j e ne lt lj) in
@@ -102,7 +99,7 @@ asserts_less c n es m hints hints' place k v r e trail reasons size low high at 
       follows = λ p at agrees.
           let agrees' : Agrees n es (set m (get_or es j e).lit.variable false) j p = subst (λ w. Agrees n es (set m w false) j p) same agrees in
           let unit = unit_by c n es m j r e p trail reasons size lj is' all agrees' in
-          let next = subst (λ x. Agrees n es m x (with_true p (get_or es j e).lit)) (sym up) (agrees_more n es m j e p trail size lj agrees') in
+          let next = agrees_more n es m j e p trail size lj agrees' in
           ap (λ h. hints_fault c h p at) order ∙ (fault_more c r (reverse hints) p at (omega (arith, old.some, length-reverse hints)) ∙ cond-true (is_known c r) _ _ (known c r (reasons.low j r e lj is') (reasons.high j r e lj is'))
           ∙ ap (λ o. go_on (λ q. hints_fault c (reverse hints) q (at + 1)) at (unit_or o p)) unit ∙ old.follows (with_true p (get_or es j e).lit) (at + 1) next);
       top = old.top;

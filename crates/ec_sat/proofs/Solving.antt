@@ -10,6 +10,7 @@ use Rattle.ec_unit.specs.Watching.{Watched}
 use Rattle.ec_sat.specs.Run.{Runs, lits_of}
 use Rattle.ec_sat.specs.Ready.{IsReady}
 use Rattle.ec_sat.specs.Searched.{IsGoing, AreFew, phase_after}
+use Rattle.ec_sat.specs.declared.known.Known.{Known}
 use Rattle.ec_sat.specs.declared.answer.Next.{Next}
 use Rattle.ec_sat.specs.declared.answer.Next.TheVariants.{Model, Exhausted, Conflicts, Memory}
 use Rattle.ec_sat.proofs.Running.{count_all}
@@ -31,9 +32,9 @@ few_after old new before after count derived limit visible blocked p answer h lo
       few_derived = omega (arith, runs_low old new before after count derived limit p answer h);
     }
 
-pub going_after : (old new : ClauseList) (before after : List Note) (count derived limit blocked : ℕ) (p : Truth) (trail : TrailList) (watch : Watched) (order : ℕ) (marks : List Bool) (answer : Next) → Runs old new before after count derived limit p answer → (answer ≡ Model → IsReady new trail watch order marks) → length old.clauses ≤ 2 ^ 30 + blocked + count → IsGoing (phase_after answer) blocked derived new trail watch order marks
-going_after old new before after count derived limit blocked p trail watch order marks Model h ready few =
+pub going_after : (old new : ClauseList) (before after : List Note) (count derived limit blocked : ℕ) (p : Truth) (trail : TrailList) (watch : Watched) (order : ℕ) (marks : List Bool) (known : Known) (answer : Next) → Runs old new before after count derived limit p answer → (answer ≡ Model → IsReady new trail watch order marks known) → length old.clauses ≤ 2 ^ 30 + blocked + count → IsGoing (phase_after answer) blocked derived new trail watch order marks known
+going_after old new before after count derived limit blocked p trail watch order marks known Model h ready few =
     (ready refl, omega (arith, ap (λ (c : ClauseList). length c.clauses) h.run.added, length-append old.clauses (map lits_of h.steps), length-map h.steps lits_of, h.counted, count_all h.steps h.outcome.1))
-going_after old new before after count derived limit blocked p trail watch order marks Exhausted h ready few = tt
-going_after old new before after count derived limit blocked p trail watch order marks Conflicts h ready few = tt
-going_after old new before after count derived limit blocked p trail watch order marks Memory h ready few = tt
+going_after old new before after count derived limit blocked p trail watch order marks known Exhausted h ready few = tt
+going_after old new before after count derived limit blocked p trail watch order marks known Conflicts h ready few = tt
+going_after old new before after count derived limit blocked p trail watch order marks known Memory h ready few = tt

@@ -7,6 +7,7 @@ use Rattle.ec_trail.specs.TrailList.{TrailList}
 use Rattle.ec_unit.specs.Watching.{Watched}
 use Rattle.ec_sat.specs.Ready.{IsReady}
 use Rattle.ec_sat.specs.Run.{Runs, blocked_clause}
+use Rattle.ec_sat.specs.declared.known.Known.{Known}
 use Rattle.ec_sat.specs.declared.answer.Next.{Next}
 use Rattle.ec_sat.specs.declared.answer.Next.TheVariants.{Model, Exhausted, Conflicts, Memory}
 use Rattle.ec_sat.specs.declared.answer.Phase.{Phase}
@@ -55,10 +56,10 @@ pub record BlocksNone (old new : Searched) (before after : List Note) : Type 0 w
   pub derived : new.derived ≡ old.derived
 
 -- a search can go on, and its clauses are few, unless it ended
-abbrev pub IsGoing : Phase → ℕ → ℕ → ClauseList → TrailList → Watched → ℕ → List Bool → Type 0
-IsGoing Ready blocked derived list trail watch order marks = IsReady list trail watch order marks × (length list.clauses ≤ 2 ^ 30 + blocked + derived)
-IsGoing Found blocked derived list trail watch order marks = IsReady list trail watch order marks × (length list.clauses ≤ 2 ^ 30 + blocked + derived)
-IsGoing Ended blocked derived list trail watch order marks = Unit {0}
+abbrev pub IsGoing : Phase → ℕ → ℕ → ClauseList → TrailList → Watched → ℕ → List Bool → Known → Type 0
+IsGoing Ready blocked derived list trail watch order marks known = IsReady list trail watch order marks known × (length list.clauses ≤ 2 ^ 30 + blocked + derived)
+IsGoing Found blocked derived list trail watch order marks known = IsReady list trail watch order marks known × (length list.clauses ≤ 2 ^ 30 + blocked + derived)
+IsGoing Ended blocked derived list trail watch order marks known = Unit {0}
 
 -- the numbers of variables and of clauses stay far from the greatest number
 pub record AreFew (visible blocked derived : ℕ) (list : ClauseList) : Type 0 where

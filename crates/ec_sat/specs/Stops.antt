@@ -1,5 +1,5 @@
 -- where the walk down the trail is
-use Rattle.std.specs.Prelude.{◌≡◌, ℕ, ◌+◌, ◌≤◌, ◌<◌, Bool, true, false, List, Some, None, All, length, reverse, nat_le, ◌-◌, slice_index_or as get_or}
+use Rattle.std.specs.Prelude.{◌≡◌, ℕ, ◌+◌, ◌≤◌, ◌<◌, Bool, true, false, List, Some, None, All, length, reverse, Contains, nat_le, ◌-◌, slice_index_or as get_or}
 use Rattle.ec_clause.specs.Literal.{Literal}
 use Rattle.std.specs.List.{prefix_len}
 use Rattle.ec_trail.specs.TrailList.{top_level}
@@ -58,3 +58,15 @@ pub record IsAsserting (c : ClauseList) (n : ℕ) (es : List Entry) (m : List Bo
 -- the variable of each literal is marked
 abbrev pub AllMarked : List Bool → List Literal → Type 0
 AllMarked m lits = All (λ (l : Literal). get_or m l.variable false ≡ true) lits
+
+-- the places of the marked literals below a level are among these
+abbrev pub AreListed : List Entry → List Bool → ℕ → List ℕ → Type 0
+AreListed es m level places = (i : ℕ) (d : Entry) → i < length es → (get_or es i d).level < level → get_or m (get_or es i d).lit.variable false ≡ true → Contains places i
+
+-- so are those of all marked literals below a place
+abbrev pub AreListedUpTo : List Entry → List Bool → ℕ → List ℕ → Type 0
+AreListedUpTo es m count places = (i : ℕ) (d : Entry) → i < count → i < length es → get_or m (get_or es i d).lit.variable false ≡ true → Contains places i
+
+-- what was listed is so still
+abbrev pub StayListed : List Entry → List Bool → List Bool → Type 0
+StayListed es m m' = (level : ℕ) (places : List ℕ) → AreListed es m level places → AreListed es m' level places

@@ -1,4 +1,4 @@
-//! The variables by their activity, the most active first.
+//! The variables by their activity, the most active first, and the lower number where it ties.
 
 ghost use Rattle.std.specs.Prelude.{◌≡◌, ℕ, ◌+◌, ◌^◌, ◌<◌, ◌≤◌, length, All, IfOk, IfSome};
 
@@ -110,7 +110,7 @@ impl Heap {
         }
     }
 
-    /// Lets a variable of the heap rise over those that are less active.
+    /// Lets a variable of the heap rise over those that it comes before.
     fn rise(&mut self, variable: u32)
         requires low { 1 ≤ variable }
         requires high { variable ≤ self.old }
@@ -123,7 +123,7 @@ impl Heap {
         while place > 0 {
             let above = (place - 1) / 2;
             let other = self.heap[above];
-            if self.activity[other as usize] >= self.activity[variable as usize] {
+            if !comes_before(&self.activity, variable, other) {
                 return;
             }
             self.heap[place] = other;
@@ -134,12 +134,12 @@ impl Heap {
         }
     }
 
-    /// Lets the first variable fall under those that are more active.
+    /// Lets the first variable fall under those that come before it.
     fn fall(&mut self)
         ensures { self.new ≡ self.old }
     {
         let mut place = 0;
-        while let Some(child) = more_active_child(&self.heap, &self.activity, place) {
+        while let Some(child) = child_before(&self.heap, &self.activity, place) {
             let variable = self.heap[place];
             let other = self.heap[child];
             self.heap[place] = other;
@@ -151,8 +151,19 @@ impl Heap {
     }
 }
 
-/// The place of the more active child, if it is more active than its parent.
-fn more_active_child(heap: &[u32], activity: &[u64], place: usize) -> Option<usize>
+/// Whether a variable comes before another: it is more active, or as active and of a lower number.
+/// The visible variables have the lowest numbers, and what they imply decides the others.
+fn comes_before(activity: &[u64], variable: u32, other: u32) -> bool
+    requires variable { variable < length activity.now }
+    requires other { other < length activity.now }
+{
+    let mine = activity[variable as usize];
+    let theirs = activity[other as usize];
+    mine > theirs || (mine == theirs && variable < other)
+}
+
+/// The place of the child that comes first, if it comes before its parent.
+fn child_before(heap: &[u32], activity: &[u64], place: usize) -> Option<usize>
     requires few { length heap.now < 2 ^ 31 }
     requires each { All (λ v. v < length activity.now) heap.now }
     ensures below { IfSome result (λ c. place < c) }
@@ -167,10 +178,10 @@ fn more_active_child(heap: &[u32], activity: &[u64], place: usize) -> Option<usi
     }
     let right = left + 1;
     let mut child = left;
-    if right < heap.len() && activity[heap[right] as usize] > activity[heap[left] as usize] {
+    if right < heap.len() && comes_before(activity, heap[right], heap[left]) {
         child = right;
     }
-    if activity[heap[child] as usize] <= activity[heap[place] as usize] {
+    if !comes_before(activity, heap[child], heap[place]) {
         return None;
     }
     Some(child)

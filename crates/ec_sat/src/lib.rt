@@ -12,6 +12,7 @@
 
 pub mod answer;
 mod heap;
+mod known;
 mod learn;
 mod level;
 mod order;

@@ -9,9 +9,10 @@ ghost use Rattle.ec_sat.specs.Reasons.{IsSearching};
 ghost use Rattle.ec_clause.specs.Note.{Derived, Blocked};
 ghost use Rattle.ec_clause.specs.Step.{AllHold};
 ghost use Rattle.ec_sat.specs.Run.{IsResolved, Runs, count_of, value_in, blocked_clause};
-ghost use Rattle.ec_sat.specs.Ready.{IsReady};
+ghost use Rattle.ec_sat.specs.Ready.{IsReady, IsKnown};
 
 use crate::answer::Next;
+use crate::known::Known;
 use crate::learn::{Learned, learn};
 use crate::level::{return_level, second_level};
 use crate::order::Order;
@@ -43,6 +44,7 @@ pub struct Search {
     pub restarts: Restarts,
     /// A scratch, one mark a variable.
     pub marks: Vec<bool>,
+    pub known: Known,
     /// The number of derived clauses with a literal.
     pub derived: u64,
 }
@@ -53,19 +55,24 @@ pub fn descend(
     trail: &mut Trail,
     watch: &mut Watch,
     order: &mut Order,
+    known: &mut Known,
 ) -> Option<u32>
     requires searching { IsSearching clauses.now trail.old }
     requires watched { Watches clauses.now watch.old }
     requires order { order.old ≡ trail.old.variables }
+    requires known { IsKnown clauses.now trail.old watch.old.seen known.old }
     ensures searching { IsSearching clauses.now trail.new }
     ensures watched { Watches clauses.now watch.new }
     ensures order { order.new ≡ order.old }
+    ensures known { IsKnown clauses.now trail.new watch.new.seen known.new }
     ensures variables { trail.new.variables ≡ trail.old.variables }
     ensures cases { MatchOption result (AllHold (value_in (truth_of trail.new)) clauses.now) (IsFalseAt clauses.now (truth_of trail.new)) }
 {
-    let _known = clauses.len();
+    let _clauses = clauses.len();
     loop {
-        match watch.settle(clauses, trail) {
+        let settled = watch.settle_from(clauses, trail, known.front, known.short);
+        *known = known.after(trail, settled);
+        match settled {
             Settled::Conflict(number) => return Some(number),
             Settled::Quiet => {}
         }
@@ -86,6 +93,7 @@ pub fn add(clauses: &mut Clauses, watch: &mut Watch, lits: &[Lit]) -> Result<(),
     ensures variables { clauses.new.variables ≡ clauses.old.variables }
     ensures ok { OnOk result (clauses.new.clauses ≡ clauses.old.clauses ++ lits.now ∷ []) }
     ensures watched { OnOk result (Watches clauses.new watch.new) }
+    ensures seen { watch.new.seen ≡ watch.old.seen }
     ensures err { OnErr result (clauses.new.clauses ≡ clauses.old.clauses) }
 {
     let kept = clauses.len();
@@ -112,6 +120,7 @@ fn note<N: Notes>(
     ensures variables { clauses.new.variables ≡ clauses.old.variables }
     ensures ok { OnOk result (clauses.new.clauses ≡ clauses.old.clauses ++ learned.now.lits.items ∷ []) }
     ensures watched { OnOk result (Watches clauses.new watch.new) }
+    ensures seen { watch.new.seen ≡ watch.old.seen }
     ensures noted { OnOk result (N.notes notes.new ≡ N.notes notes.old ++ Derived learned.now.lits.items learned.now.hints.items ∷ []) }
     ensures err { OnErr result (clauses.new.clauses ≡ clauses.old.clauses) }
     ensures none { OnErr result (N.notes notes.new ≡ N.notes notes.old) }
@@ -134,11 +143,11 @@ pub fn resolve<N: Notes>(
     notes: &mut N,
     number: u32,
 ) -> Result<Conflict, AllocError>
-    requires ready { IsReady search.old.clauses search.old.trail search.old.watch search.old.order search.old.marks.items }
+    requires ready { IsReady search.old.clauses search.old.trail search.old.watch search.old.order search.old.marks.items search.old.known }
     requires conflict { IsFalseAt search.old.clauses (truth_of search.old.trail) number }
     requires few { length search.old.clauses.clauses < 2 ^ 32 - 1 }
     requires derived { search.old.derived < 2 ^ 32 }
-    ensures ready { IfOk result (λ c. c ≡ Conflict.Learned → IsReady search.new.clauses search.new.trail search.new.watch search.new.order search.new.marks.items) }
+    ensures ready { IfOk result (λ c. c ≡ Conflict.Learned → IsReady search.new.clauses search.new.trail search.new.watch search.new.order search.new.marks.items search.new.known) }
     ensures resolved { IfOk result (IsResolved search.old.clauses search.new.clauses (N.notes notes.old) (N.notes notes.new)) }
     ensures derived { IfOk result (λ c. search.new.derived ≡ search.old.derived + count_of c) }
     ensures err { OnErr result (search.new.clauses ≡ search.old.clauses) }
@@ -165,16 +174,17 @@ pub fn resolve<N: Notes>(
         .bump(&search.clauses, &learned.lits, &learned.hints);
     search.order.save(&search.trail, level);
     search.trail.back_to(level);
+    search.known = search.known.added(&search.trail, learned.lits.len());
     Ok(Conflict::Learned)
 }
 
 /// Searches on until there is an answer.
 pub fn run<N: Notes>(search: &mut Search, notes: &mut N, limit: u64) -> Next
-    requires ready { IsReady search.old.clauses search.old.trail search.old.watch search.old.order search.old.marks.items }
+    requires ready { IsReady search.old.clauses search.old.trail search.old.watch search.old.order search.old.marks.items search.old.known }
     requires more { search.old.derived < limit }
     requires limit { limit ≤ 2000000000 }
     requires few { length search.old.clauses.clauses + (limit - search.old.derived) < 2 ^ 32 - 1 }
-    ensures ready { result ≡ Next.Model → IsReady search.new.clauses search.new.trail search.new.watch search.new.order search.new.marks.items }
+    ensures ready { result ≡ Next.Model → IsReady search.new.clauses search.new.trail search.new.watch search.new.order search.new.marks.items search.new.known }
     ensures runs { Runs search.old.clauses search.new.clauses (N.notes notes.old) (N.notes notes.new) search.old.derived search.new.derived limit (truth_of search.new.trail) result }
     ensures numbers { N.numbers notes.new ≡ N.numbers notes.old }
 {
@@ -184,6 +194,7 @@ pub fn run<N: Notes>(search: &mut Search, notes: &mut N, limit: u64) -> Next
             &mut search.trail,
             &mut search.watch,
             &mut search.order,
+            &mut search.known,
         ) {
             None => return Next::Model,
             Some(number) => match resolve(search, notes, number) {
@@ -199,10 +210,10 @@ pub fn run<N: Notes>(search: &mut Search, notes: &mut N, limit: u64) -> Next
 /// Forbids the values of the variables from 1 to `visible`: notes and adds the clause, and goes
 /// back so far that it can be settled.
 pub fn block<N: Notes>(search: &mut Search, notes: &mut N, visible: u32) -> Result<(), AllocError>
-    requires ready { IsReady search.old.clauses search.old.trail search.old.watch search.old.order search.old.marks.items }
+    requires ready { IsReady search.old.clauses search.old.trail search.old.watch search.old.order search.old.marks.items search.old.known }
     requires visible { visible ≤ search.old.trail.variables }
     requires few { length search.old.clauses.clauses < 2 ^ 32 - 1 }
-    ensures ready { OnOk result (IsReady search.new.clauses search.new.trail search.new.watch search.new.order search.new.marks.items) }
+    ensures ready { OnOk result (IsReady search.new.clauses search.new.trail search.new.watch search.new.order search.new.marks.items search.new.known) }
     ensures variables { search.new.clauses.variables ≡ search.old.clauses.variables }
     ensures ok { OnOk result (search.new.clauses.clauses ≡ search.old.clauses.clauses ++ blocked_clause visible (truth_of search.old.trail) ∷ []) }
     ensures noted { OnOk result (N.notes notes.new ≡ N.notes notes.old ++ Blocked (blocked_clause visible (truth_of search.old.trail)) ∷ []) }
@@ -216,6 +227,7 @@ pub fn block<N: Notes>(search: &mut Search, notes: &mut N, visible: u32) -> Resu
     let level = second_level(&search.trail, &lits);
     search.order.save(&search.trail, level);
     search.trail.back_to(level);
+    search.known = search.known.added(&search.trail, lits.len());
     Ok(())
 }
 
@@ -232,6 +244,7 @@ fn note_blocked<N: Notes>(
     ensures variables { clauses.new.variables ≡ clauses.old.variables }
     ensures ok { OnOk result (clauses.new.clauses ≡ clauses.old.clauses ++ lits.now ∷ []) }
     ensures watched { OnOk result (Watches clauses.new watch.new) }
+    ensures seen { watch.new.seen ≡ watch.old.seen }
     ensures noted { OnOk result (N.notes notes.new ≡ N.notes notes.old ++ Blocked lits.now ∷ []) }
     ensures err { OnErr result (clauses.new.clauses ≡ clauses.old.clauses) }
     ensures none { OnErr result (N.notes notes.new ≡ N.notes notes.old) }

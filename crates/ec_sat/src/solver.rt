@@ -4,6 +4,7 @@ ghost use Rattle.std.specs.Prelude.{◌≡◌, ℕ, ◌^◌, ◌<◌, ◌≤◌,
 ghost use Rattle.ec_sat.specs.Run.{value_in};
 
 use crate::answer::{Next, Phase};
+use crate::known::Known;
 use crate::order::Order;
 use crate::search::{Search, block, run};
 use ec_clause::clauses::Clauses;
@@ -33,7 +34,7 @@ impl Model for Solver {
 
     ghost view = { λ a. record { phase = a.phase; visible = a.visible; list = a.search.clauses; blocked = a.blocked; derived = a.search.derived; assignment = truth_of a.search.trail } };
 
-    ghost invariant = { λ a. AreFew a.visible a.blocked a.search.derived a.search.clauses × IsGoing a.phase a.blocked a.search.derived a.search.clauses a.search.trail a.search.watch a.search.order a.search.marks.items };
+    ghost invariant = { λ a. AreFew a.visible a.blocked a.search.derived a.search.clauses × IsGoing a.phase a.blocked a.search.derived a.search.clauses a.search.trail a.search.watch a.search.order a.search.marks.items a.search.known };
 }
 
 impl Solver {
@@ -67,6 +68,7 @@ impl Solver {
                 order,
                 restarts: Restarts::new(),
                 marks,
+                known: Known::nothing(),
                 derived: 0,
             },
         })

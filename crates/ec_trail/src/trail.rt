@@ -156,6 +156,24 @@ impl Trail {
         }
     }
 
+    /// The place, from 0, at which the variable got its value; none where it has none.
+    pub fn place(&self, variable: u32) -> Option<u32>
+        requires { variable ≤ self.now.variables }
+        ensures within { IfSome result (λ i. i < length self.now.entries) }
+        ensures there { IfSome result (λ i. IfSome (slice_get self.now.entries i) (λ e. e.lit.variable ≡ variable)) }
+        ensures none { IfNone result (slice_index_or (truth_of self.now) variable None ≡ None) }
+    {
+        let place = self.places[variable as usize];
+        if place as usize >= self.entries.len() {
+            return None;
+        }
+        let entry = self.entries[place as usize];
+        if entry.lit.variable() != variable {
+            return None;
+        }
+        Some(place)
+    }
+
     fn entry_of(&self, variable: u32) -> Option<Entry>
         requires { variable ≤ self.now.variables }
         ensures { result ≡ entry_of self.now.entries variable }

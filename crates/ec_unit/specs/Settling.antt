@@ -1,5 +1,5 @@
 -- what settling a trail leaves
-use Rattle.std.specs.Prelude.{◌≡◌, ℕ, ◌≤◌, ◌<◌, true, false, List, Some, None, length, take, slice_index_or}
+use Rattle.std.specs.Prelude.{◌≡◌, ℕ, ◌≤◌, ◌<◌, true, false, List, Some, None, length, take, slice_index_or, Contains}
 use Rattle.ec_clause.specs.ClauseList.{ClauseList, clause_at}
 use Rattle.ec_clause.specs.Literal.{Literal}
 use Rattle.ec_clause.specs.Truth.{Truth, is_false, unit_literal}
@@ -43,3 +43,16 @@ pub record IsFalseAt (c : ClauseList) (p : Truth) (number : ℕ) : Type 0 where
 abbrev pub Settles : ClauseList → Truth → Settled → Type 0
 Settles c p Quiet = AllQuiet c p
 Settles c p (Conflict number) = IsFalseAt c p number
+
+-- a literal of a clause was made true at level 0
+pub record HoldsAtZero (es : List Entry) (lits : List Literal) : Type 0 where
+  pub lit : Literal
+  pub of_clause : Contains lits lit
+  pub place : ℕ
+  pub within : place < length es
+  pub there : (d : Entry) → (slice_index_or es place d).lit ≡ lit
+  pub level : (d : Entry) → (slice_index_or es place d).level ≡ 0
+
+-- so it is with each clause of fewer than two literals
+abbrev pub ShortHoldAtZero : ClauseList → List Entry → Type 0
+ShortHoldAtZero c es = (number : ℕ) → IsNumber c number → length (clause_at c number) < 2 → HoldsAtZero es (clause_at c number)

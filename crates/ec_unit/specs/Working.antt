@@ -13,6 +13,9 @@ use Rattle.ec_unit.specs.Leaning.{no_seen, Follows, HasTrue, AreHeld}
 abbrev pub cell_lit : Cell → Option Literal
 cell_lit cell = cell.lit
 
+abbrev pub seen_lit : Seen → Literal
+seen_lit s = s.lit
+
 -- the first two literals of a clause, if it has two
 abbrev pub first_two_of : List Literal → Option Literal × Option Literal
 first_two_of [] = (None, None)
@@ -31,7 +34,7 @@ short_of (k ∷ l ∷ ls) number = []
 
 -- what is seen of a table
 abbrev pub watched_of : Table → Watched
-watched_of t = record { variables = t.variables; watches = map cell_lit t.chains.cells.items }
+watched_of t = record { variables = t.variables; watches = map cell_lit t.chains.cells.items; seen = map seen_lit t.seen.items }
 
 -- the two places of a clause are both empty or both not; the clauses with empty ones are noted as short
 pub record AreShort (cells : List Cell) (count : ℕ) (short : List ℕ) : Type 0 where

@@ -4,7 +4,8 @@ ghost use Rattle.std.specs.Prelude.{◌≡◌, ℕ, ◌+◌, ◌-◌, ◌*◌, �
 ghost use Rattle.ec_clause.specs.Literal.{Literal};
 ghost use Rattle.ec_clause.specs.ClauseList.{IsClause, clause_at};
 ghost use Rattle.ec_trail.specs.TrailList.{truth_of};
-ghost use Rattle.ec_unit.specs.Settling.{AddsImplied, IsFalseAt};
+ghost use Rattle.std.specs.Bool.{OnTrue};
+ghost use Rattle.ec_unit.specs.Settling.{AddsImplied, IsFalseAt, ShortHoldAtZero};
 ghost use Rattle.ec_unit.specs.Chained.{no_chain, no_cell};
 ghost use Rattle.ec_unit.specs.Leaning.{Follows, Grows, HasTrue};
 ghost use Rattle.ec_unit.specs.Working.{AreChained, IsWorking, ShortHold, cells_of, first_two_of, short_of};
@@ -131,13 +132,15 @@ pub fn examine(
     }
 }
 
-/// Looks at the clauses of fewer than two literals.
+/// Looks at the clauses of fewer than two literals, unless it is known that they hold at level 0.
 pub fn examine_short(
     seen: &mut Vec<Seen>,
     short: &[u32],
     clauses: &Clauses,
     trail: &mut Trail,
+    held: bool,
 ) -> Option<u32>
+    requires held { OnTrue held (ShortHoldAtZero clauses.now trail.old.entries) }
     requires short { All (λ number. (1 ≤ number) × (number ≤ length clauses.now.clauses)) short.now }
     requires list { clauses.now.variables ≡ trail.old.variables }
     requires room { trail.old.variables ≤ vec_capacity seen.old }
@@ -149,6 +152,9 @@ pub fn examine_short(
     ensures some { IfSome result (IsFalseAt clauses.now (truth_of trail.new)) }
     ensures none { IfNone result (ShortHold clauses.now seen.new.items short.now) }
 {
+    if held {
+        return None;
+    }
     for number in short {
         if let Some(number) = examine(seen, clauses, trail, *number) {
             return Some(number);

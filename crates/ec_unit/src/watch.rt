@@ -3,7 +3,8 @@
 ghost use Rattle.std.specs.Prelude.{◌≡◌, ℕ, ◌+◌, ◌-◌, ◌*◌, ◌<◌, ◌≤◌, length, MatchOption, IfOk, IfSome, IfNone, OnOk, OnErr, Some, None, All};
 ghost use Rattle.ec_clause.specs.ClauseList.{ClauseList, clause_at};
 ghost use Rattle.ec_trail.specs.TrailList.{truth_of};
-ghost use Rattle.ec_unit.specs.Settling.{AddsImplied, AllQuiet, IsFalseAt};
+ghost use Rattle.std.specs.Bool.{OnTrue};
+ghost use Rattle.ec_unit.specs.Settling.{AddsImplied, AllQuiet, IsFalseAt, ShortHoldAtZero};
 ghost use Rattle.ec_unit.specs.Leaning.{Grows};
 ghost use Rattle.ec_unit.specs.Working.{AreChained, IsWorking, ShortHold, AllSafe, watched_of};
 
@@ -45,7 +46,7 @@ impl Model for Watch {
 
 impl Watch {
     ghost use Rattle.ec_unit.specs.Settling.{Settles};
-    ghost use Rattle.ec_unit.specs.Watching.{Watched, Watches, WatchesUpTo, IsWatched, AreSafe, watched_at};
+    ghost use Rattle.ec_unit.specs.Watching.{Watched, Watches, WatchesUpTo, IsWatched, AreSafe, Agrees, watched_at};
 
     /// Watches over all clauses of the list. It takes 36 bytes a clause and 40 a variable.
     pub fn new(alloc: Global, clauses: &Clauses) -> Result<Watch, AllocError>
@@ -72,6 +73,7 @@ impl Watch {
         requires next { WatchesUpTo clauses.now (number - 1) self.old }
         ensures ok { OnOk result (WatchesUpTo clauses.now number self.new) }
         ensures err { OnErr result (self.new ≡ self.old) }
+        ensures seen { self.new.seen ≡ self.old.seen }
     {
         let clause = clauses.get(number);
         add(
@@ -113,11 +115,34 @@ impl Watch {
         ensures settles { Settles clauses.now (truth_of trail.new) result }
         ensures safe { AreSafe self.new (length clauses.now.clauses) (truth_of trail.new) result }
     {
+        let front = agreeing(&self.table.seen, trail);
+        self.settle_from(clauses, trail, front, false)
+    }
+
+    /// Settles a trail whose first `front` literals are those that were seen when it was settled
+    /// last, without a comparison. Where `held` says that each clause of fewer than two literals
+    /// holds at level 0, none of them is looked at.
+    pub fn settle_from(
+        &mut self,
+        clauses: &Clauses,
+        trail: &mut Trail,
+        front: u32,
+        held: bool,
+    ) -> Settled
+        requires watched { Watches clauses.now self.old }
+        requires variables { clauses.now.variables ≡ trail.old.variables }
+        requires front { Agrees self.old.seen trail.old.entries front }
+        requires held { OnTrue held (ShortHoldAtZero clauses.now trail.old.entries) }
+        ensures watched { Watches clauses.now self.new }
+        ensures adds { AddsImplied clauses.now trail.old trail.new }
+        ensures settles { Settles clauses.now (truth_of trail.new) result }
+        ensures safe { AreSafe self.new (length clauses.now.clauses) (truth_of trail.new) result }
+        ensures seen { Agrees self.new.seen trail.new.entries (length trail.new.entries) }
+    {
         let table = &mut self.table;
-        let front = agreeing(&table.seen, trail);
         table.worked = forget(&mut table.seen, table.worked, front);
         see(&mut table.seen, front, trail);
-        match work(table, clauses, trail) {
+        match work(table, clauses, trail, held) {
             None => Settled::Quiet,
             Some(number) => Settled::Conflict(number),
         }
@@ -125,7 +150,8 @@ impl Watch {
 }
 
 /// Works what is left of the trail, until a clause is false or all is worked.
-fn work(table: &mut Table, clauses: &Clauses, trail: &mut Trail) -> Option<u32>
+fn work(table: &mut Table, clauses: &Clauses, trail: &mut Trail, held: bool) -> Option<u32>
+    requires held { OnTrue held (ShortHoldAtZero clauses.now trail.old.entries) }
     requires working { IsWorking clauses.now table.old trail.old }
     requires chained { AreChained table.old }
     ensures working { IsWorking clauses.now table.new trail.new }
@@ -135,7 +161,7 @@ fn work(table: &mut Table, clauses: &Clauses, trail: &mut Trail) -> Option<u32>
     ensures quiet { IfNone result (AllQuiet clauses.now (truth_of trail.new)) }
     ensures safe { IfNone result (AllSafe clauses.now table.new trail.new) }
 {
-    if let Some(number) = examine_short(&mut table.seen, &table.short, clauses, trail) {
+    if let Some(number) = examine_short(&mut table.seen, &table.short, clauses, trail, held) {
         return Some(number);
     }
     if let Some(number) = take_up(table, clauses, trail) {

@@ -35,8 +35,8 @@ loop-count-preserved-in-Continue-1 c =
     let n = c.args.trail.now.variables in
     let clauses = c.args.clauses.now in
     let clause : IsClause n (clause_at clauses c.in-Some.reason) = rw (← c.requires.variables, ← c.get.ensures.value) c.get.ensures.clause in
-    let marked = c.mark.ensures ∙ ap (mark_all c.loop-count.marks) c.get.ensures.value in
-    refuting_more clauses n c.args.trail.now.entries c.loop-count.marks c.mark.new.marks c.loop-count.hints.items c.push.new.self.items c.loop-count.count c.variable-variable.result c.in-Some.reason c.entry-entry.result c.requires.reasons clause c.loop-count.invariant (omega arith) c.entry-entry.ensures c.variable-variable.ensures.variable c.in-Some.is marked c.in_ok-push-in-Some.ensures.items
+    let marked = c.mark_each.ensures ∙ ap (mark_all c.loop-count.marks) c.get.ensures.value in
+    refuting_more clauses n c.args.trail.now.entries c.loop-count.marks c.mark_each.new.marks c.loop-count.hints.items c.push.new.self.items c.loop-count.count c.variable-variable.result c.in-Some.reason c.entry-entry.result c.requires.reasons clause c.loop-count.invariant (omega arith) c.entry-entry.ensures c.variable-variable.ensures.variable c.in-Some.is marked c.in_ok-push-in-Some.ensures.items
 
 pub returns-clause-step : goal.returns-clause-step
 returns-clause-step c =

@@ -13,7 +13,7 @@ invariant_of-self g c =
     let before = g.N.Notes.notes c.args.notes.now in
     let after = g.N.Notes.notes c.run-answer.new.notes in
     let ready : a.phase ≡ Ready = ap (λ (s : Searched). s.phase) c.self.view_is ∙ c.requires.ready in
-    let going = subst (λ (phase : Phase). IsGoing phase a.blocked a.search.derived a.search.clauses a.search.trail a.search.watch a.search.order a.search.marks.items) ready c.self.invariant.1 in (
+    let going = subst (λ (phase : Phase). IsGoing phase a.blocked a.search.derived a.search.clauses a.search.trail a.search.watch a.search.order a.search.marks.items a.search.known) ready c.self.invariant.1 in (
       few_after a.search.clauses new.clauses before after a.search.derived new.derived c.args.limit a.visible a.blocked (truth_of new.trail) c.run-answer.result c.run-answer.ensures.runs c.requires.limit c.self.invariant.0,
-      subst (λ (phase : Phase). IsGoing phase a.blocked new.derived new.clauses new.trail new.watch new.order new.marks.items) (sym c.phase-self-inside.ensures) (going_after a.search.clauses new.clauses before after a.search.derived new.derived c.args.limit a.blocked (truth_of new.trail) new.trail new.watch new.order new.marks.items c.run-answer.result c.run-answer.ensures.runs c.run-answer.ensures.ready going.1),
+      subst (λ (phase : Phase). IsGoing phase a.blocked new.derived new.clauses new.trail new.watch new.order new.marks.items new.known) (sym c.phase-self-inside.ensures) (going_after a.search.clauses new.clauses before after a.search.derived new.derived c.args.limit a.blocked (truth_of new.trail) new.trail new.watch new.order new.marks.items new.known c.run-answer.result c.run-answer.ensures.runs c.run-answer.ensures.ready going.1),
     )
