@@ -4,6 +4,7 @@ ghost use Rattle.std.specs.Prelude.{◌≤◌, None, false};
 use ec_edge::{FileFault, Files};
 use ec_log::{LogReader, NextLine};
 use std::alloc::{AllocError, Global};
+use std::fmt::Write;
 
 /// A file of which each call gives at most so many bytes, whatever its name. It can't be written.
 #[derive(Drop)]
@@ -39,27 +40,29 @@ impl<'a> Files for CutFile<'a> {
     }
 }
 
-/// The answers of a reader of the log that a name holds, with a buffer of this size, up to the first
-/// that is no line.
-pub fn told_lines<F: Files>(
+fn push_answer(out: &mut String, answer: &NextLine) -> Result<(), AllocError> {
+    write!(out, "{answer:?}\n")?;
+    Ok(())
+}
+
+/// Adds the answers of a reader of the log that a name holds, with a buffer of this size, up to the first that is no line.
+pub fn push_lines<F: Files>(
+    out: &mut String,
     alloc: Global,
     files: &mut F,
     name: &str,
     size: u32,
-) -> Result<String, AllocError>
+) -> Result<(), AllocError>
     requires least { 1 ≤ size }
     requires most { size ≤ 1048576 }
 {
-    let mut out = String::new(alloc);
     let mut reader = LogReader::new(alloc, size)?;
     for _ in 0..10 {
         let answer = reader.next(files, name);
-        let text = format!(in alloc; "{answer:?}\n")?;
-        out.push_str(&text)?;
-        match answer {
-            NextLine::Line(_) => {}
-            _ => return Ok(out),
+        push_answer(out, &answer)?;
+        if !matches!(answer, NextLine::Line(_)) {
+            return Ok(());
         }
     }
-    Ok(out)
+    Ok(())
 }

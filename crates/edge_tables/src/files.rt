@@ -1,143 +1,119 @@
 //! Files in memory, with a fault at each call in turn.
-use crate::answers::told;
-use differences::push_difference;
-use ec_edge::{Files, MemFiles, read_whole};
+use ec_edge::{FileFault, Files, MemFiles, read_whole};
 use std::alloc::{AllocError, Global};
 use std::test::Fail;
+
+/// Whether a read under this limit ends so: in a fault, or in these bytes and whether there are more behind them.
+fn reads(
+    alloc: Global,
+    files: &mut MemFiles,
+    name: &str,
+    limit: u32,
+    end: Result<bool, FileFault>,
+    bytes: &[u8],
+) -> bool {
+    if limit > 268_435_456 {
+        return false;
+    }
+    match read_whole(alloc, files, name, limit) {
+        Ok(whole) => end == Ok(whole.past) && whole.bytes.as_slice() == bytes,
+        Err(fault) => end == Err(fault),
+    }
+}
 
 // A file of two pieces and the piece of no bytes behind them.
 const SIZE: usize = 5000;
 
-/// The piece that fails, and what is read then.
-const READS: &[(u32, &str)] = &[
-    (1, "Failed"),
-    (2, "Failed"),
-    (3, "Failed"),
-    (4, "same: true, past: false"),
+/// The pieces that fail: the first of a read, the second of the next one, and the third of that after it.
+const FAILING_PIECES: &[u32] = &[1, 3, 6];
+
+/// How four reads end, one after another.
+const READS: &[Result<bool, FileFault>] = &[
+    Err(FileFault::Failed),
+    Err(FileFault::Failed),
+    Err(FileFault::Failed),
+    Ok(false),
 ];
 
-fn read_failing(alloc: Global, failing: u32) -> Result<String, AllocError> {
-    let text = vec![in alloc; b'a'; SIZE]?;
+/// How many reads end as they are to, up to the first that doesn't.
+fn right_reads(alloc: Global, text: &[u8]) -> Result<usize, AllocError> {
     let mut files = MemFiles::new(alloc);
-    files.hold("t.e", text.as_slice())?;
-    files.fail_piece(u64::from(failing))?;
-    match read_whole(alloc, &mut files, "t.e", 5000) {
-        Ok(whole) => {
-            let same = whole.bytes.as_slice() == text.as_slice();
-            let past = whole.past;
-            format!(in alloc; "same: {same}, past: {past}")
+    files.hold("t.e", text)?;
+    for failing in FAILING_PIECES {
+        files.fail_piece(u64::from(*failing))?;
+    }
+    for (place, end) in READS.iter().enumerate() {
+        if !reads(alloc, &mut files, "t.e", 5000, *end, text) {
+            return Ok(place);
         }
-        Err(fault) => format!(in alloc; "{fault:?}"),
     }
+    Ok(READS.len())
 }
 
-fn differing_reads(alloc: Global) -> Result<String, AllocError> {
-    let mut out = String::new(alloc);
-    for (failing, want) in READS {
-        let got = read_failing(alloc, *failing)?;
-        push_difference(&mut out, "a read", want, &got)?;
-    }
-    Ok(out)
-}
-
-#[test]
-fn reads_of_memory(rt: HostRuntime) -> Result<(), Fail> {
-    assert_eq!(rt; differing_reads(rt.alloc())?.as_str(), "");
-    Ok(())
-}
-
-/// A limit, and which bytes of a file are read under it, and whether there are more.
-const LIMITS: &[(u32, &str, bool)] = &[
-    (0, "P", true),
-    (4, "P().\n", true),
-    (5, "P().\nQ", true),
-    (6, "P().\nQ", false),
-    (268_435_456, "P().\nQ", false),
+/// A name, a limit, and how a read under it ends.
+const LIMITS: &[(&str, u32, Result<bool, FileFault>, &str)] = &[
+    ("t.e", 0, Ok(true), "P"),
+    ("t.e", 4, Ok(true), "P().\n"),
+    ("t.e", 5, Ok(true), "P().\nQ"),
+    ("t.e", 6, Ok(false), "P().\nQ"),
+    ("t.e", 268_435_456, Ok(false), "P().\nQ"),
+    ("u.e", 6, Err(FileFault::Absent), ""),
 ];
 
-fn read_limited(alloc: Global, name: &str, limit: u32) -> Result<String, AllocError> {
-    if limit > 268_435_456 {
-        return String::from_str(alloc, "a large limit");
-    }
+/// How many limits are kept, up to the first that isn't.
+fn right_limits(alloc: Global) -> Result<usize, AllocError> {
     let mut files = MemFiles::new(alloc);
     files.hold("t.e", b"P().\nQ")?;
-    match read_whole(alloc, &mut files, name, limit) {
-        Ok(whole) => {
-            let past = format!(in alloc; "{}", whole.past)?;
-            told(alloc, &past, &whole.bytes)
+    for (place, (name, limit, end, bytes)) in LIMITS.iter().enumerate() {
+        if !reads(alloc, &mut files, name, *limit, *end, bytes.as_bytes()) {
+            return Ok(place);
         }
-        Err(fault) => format!(in alloc; "{fault:?}"),
     }
-}
-
-fn differing_limits(alloc: Global) -> Result<String, AllocError> {
-    let mut out = String::new(alloc);
-    for (limit, bytes, past) in LIMITS {
-        let got = read_limited(alloc, "t.e", *limit)?;
-        let past = format!(in alloc; "{past}")?;
-        let want = told(alloc, &past, bytes.as_bytes())?;
-        push_difference(&mut out, "a limit", &want, &got)?;
-    }
-    Ok(out)
-}
-
-#[test]
-fn limits(rt: HostRuntime) -> Result<(), Fail> {
-    let alloc = rt.alloc();
-    assert_eq!(rt; differing_limits(alloc)?.as_str(), "");
-    assert_eq!(rt; read_limited(alloc, "u.e", 6)?.as_str(), "Absent");
-    Ok(())
+    Ok(LIMITS.len())
 }
 
 /// What is appended, or none where the file is started; the answer, and what the file holds then.
-const WRITES: &[(Option<&str>, &str, &str)] = &[
-    (None, "Ok(())", ""),
-    (Some("abc"), "Ok(())", "abc"),
-    (Some("defgh"), "Err(Failed)", "abcde"),
-    (None, "Err(Failed)", "abcde"),
+const WRITES: &[(Option<&str>, Result<(), FileFault>, &str)] = &[
+    (None, Ok(()), ""),
+    (Some("abc"), Ok(()), "abc"),
+    (Some("defgh"), Err(FileFault::Failed), "abcde"),
+    (None, Err(FileFault::Failed), "abcde"),
 ];
 
-fn write(
-    alloc: Global,
-    files: &mut MemFiles,
-    name: &str,
-    piece: Option<&str>,
-) -> Result<String, AllocError> {
-    if files.bytes_of(name).is_none() {
-        return String::from_str(alloc, "not held");
+fn write(files: &mut MemFiles, piece: Option<&str>) -> Result<(), FileFault> {
+    if files.bytes_of("o").is_none() {
+        return Err(FileFault::Absent);
     }
-    let answer = match piece {
-        Some(piece) => files.append(name, piece.as_bytes()),
-        None => files.start(name),
-    };
-    let answer = format!(in alloc; "{answer:?}")?;
-    told(alloc, &answer, files.bytes_of(name).unwrap_or(b"not held"))
+    match piece {
+        Some(piece) => files.append("o", piece.as_bytes()),
+        None => files.start("o"),
+    }
 }
 
-/// Files that hold one name, where the second start and the second append fail.
-fn failing_files(alloc: Global) -> Result<MemFiles, AllocError> {
+/// How many calls are answered as they are to, up to the first that isn't, where the second start and the second append fail.
+fn right_writes(alloc: Global) -> Result<usize, AllocError> {
     let mut files = MemFiles::new(alloc);
     files.hold("o", b"old")?;
     files.fail_start(2)?;
     files.fail_append(2)?;
-    Ok(files)
-}
-
-fn differing_writes(alloc: Global) -> Result<String, AllocError> {
-    let mut out = String::new(alloc);
-    let mut files = failing_files(alloc)?;
-    for (piece, answer, bytes) in WRITES {
-        let got = write(alloc, &mut files, "o", *piece)?;
-        let want = told(alloc, answer, bytes.as_bytes())?;
-        push_difference(&mut out, "a write", &want, &got)?;
+    for (place, (piece, answer, bytes)) in WRITES.iter().enumerate() {
+        if write(&mut files, *piece) != *answer || files.bytes_of("o") != Some(bytes.as_bytes()) {
+            return Ok(place);
+        }
     }
-    let other = write(alloc, &mut files, "p", None)?;
-    push_difference(&mut out, "another name", "not held", &other)?;
-    Ok(out)
+    Ok(if files.bytes_of("p").is_none() {
+        WRITES.len()
+    } else {
+        0
+    })
 }
 
 #[test]
-fn writes_to_memory(rt: HostRuntime) -> Result<(), Fail> {
-    assert_eq!(rt; differing_writes(rt.alloc())?.as_str(), "");
+fn files_in_memory(rt: HostRuntime) -> Result<(), Fail> {
+    let alloc = rt.alloc();
+    assert_eq!(rt; right_limits(alloc)?, LIMITS.len());
+    assert_eq!(rt; right_writes(alloc)?, WRITES.len());
+    let text = vec![in alloc; b'a'; SIZE]?;
+    assert_eq!(rt; right_reads(alloc, &text)?, READS.len());
     Ok(())
 }

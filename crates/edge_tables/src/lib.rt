@@ -1,8 +1,6 @@
 //! What files, sinks, numbers and logs answer, worked by hand, with a fault at each call in turn. It holds tests and what they share.
 #![tactic(auto)]
 
-#[cfg(test)]
-mod answers;
 pub mod cut_file;
 #[cfg(test)]
 mod files;

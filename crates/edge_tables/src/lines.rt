@@ -45,10 +45,10 @@ fn line_of(rt: &impl Abort, alloc: Global, row: &Row) -> Line {
     }
 }
 
-fn is_read(rt: &impl Abort, alloc: Global, bytes: &str, line: Line) {
+fn reads(rt: &impl Abort, alloc: Global, bytes: &str, row: &Row) -> bool {
     match read_line(alloc, bytes.as_bytes()) {
-        Ok(read) => assert!(rt; read == line, "at {bytes}"),
-        Err(fault) => assert!(rt; false, "{fault} at {bytes}"),
+        Ok(line) => line == line_of(rt, alloc, row),
+        Err(_) => false,
     }
 }
 
@@ -70,12 +70,14 @@ const LINES: &[(&str, Row)] = &[
     ("end limit: conflicts 1", Row::End(Ending::Conflicts(1))),
 ];
 
-#[test]
-fn lines_are_read(rt: HostRuntime) {
-    let alloc = rt.alloc();
-    for (bytes, row) in LINES {
-        is_read(&rt, alloc, bytes, line_of(&rt, alloc, row));
+/// How many lines are read as they are to, up to the first that isn't.
+fn right_lines(rt: &impl Abort, alloc: Global) -> usize {
+    for (place, (bytes, row)) in LINES.iter().enumerate() {
+        if !reads(rt, alloc, bytes, row) {
+            return place;
+        }
     }
+    LINES.len()
 }
 
 const OTHER_BYTES: &[&str] = &[
@@ -109,15 +111,18 @@ const OTHER_BYTES: &[&str] = &[
     "end done: 1",
 ];
 
-#[test]
-fn other_bytes_are_no_lines(rt: HostRuntime) {
-    let alloc = rt.alloc();
+fn fault_of(alloc: Global, bytes: &str) -> Option<LineFault> {
+    read_line(alloc, bytes.as_bytes()).err()
+}
+
+/// The first bytes that are no line but aren't refused so.
+fn wrong_bytes(alloc: Global) -> Option<&'static str> {
     for bytes in OTHER_BYTES {
-        match read_line(alloc, bytes.as_bytes()) {
-            Ok(_) => assert!(rt; false, "{bytes} was read"),
-            Err(fault) => assert_eq!(rt; fault, LineFault::Form, "at {bytes}"),
+        if fault_of(alloc, bytes) != Some(LineFault::Form) {
+            return Some(*bytes);
         }
     }
+    None
 }
 
 const ENDINGS: &[(Ending, &str)] = &[
@@ -126,27 +131,23 @@ const ENDINGS: &[(Ending, &str)] = &[
     (Ending::Conflicts(7), "limit: conflicts 7"),
 ];
 
-fn words_of(alloc: Global, ending: &Ending) -> Result<Vec<u8>, AllocError> {
-    let mut out = Vec::new(alloc);
-    push_ending(&mut out, ending)?;
-    Ok(out)
-}
-
-/// The words that are not told of their ending, or from which it is not read.
-fn differing_endings(alloc: Global) -> Result<String, AllocError> {
-    let mut out = String::new(alloc);
-    for (ending, words) in ENDINGS {
-        let told = words_of(alloc, ending)?;
-        let read = read_ending(words.as_bytes());
-        if told.as_slice() != words.as_bytes() || read != Some(*ending) {
-            out.push_str(format!(in alloc; "{told:?} and {read:?} at {words}\n")?.as_str())?;
+/// How many endings are told in these words and read from them, up to the first that isn't.
+fn right_endings(out: &mut Vec<u8>) -> Result<usize, AllocError> {
+    for (place, (ending, words)) in ENDINGS.iter().enumerate() {
+        out.clear();
+        push_ending(out, ending)?;
+        if out.as_slice() != words.as_bytes() || read_ending(words.as_bytes()) != Some(*ending) {
+            return Ok(place);
         }
     }
-    Ok(out)
+    Ok(ENDINGS.len())
 }
 
 #[test]
-fn endings_are_told(rt: HostRuntime) -> Result<(), Fail> {
-    assert_eq!(rt; differing_endings(rt.alloc())?.as_str(), "");
+fn lines_and_endings(rt: HostRuntime) -> Result<(), Fail> {
+    let alloc = rt.alloc();
+    assert_eq!(rt; right_lines(&rt, alloc), LINES.len());
+    assert_eq!(rt; wrong_bytes(alloc), None);
+    assert_eq!(rt; right_endings(&mut Vec::new(alloc))?, ENDINGS.len());
     Ok(())
 }

@@ -1,6 +1,5 @@
 //! Logs that are read line by line, through buffers of several sizes and pieces of few bytes.
-use crate::cut_file::{CutFile, told_lines};
-use differences::push_difference;
+use crate::cut_file::{CutFile, push_lines};
 use ec_edge::MemFiles;
 use std::alloc::{AllocError, Global};
 use std::test::Fail;
@@ -38,77 +37,92 @@ const SIZES: &[(u32, u32)] = &[
     (4096, 4096),
 ];
 
-fn read_cut(alloc: Global, log: &str, size: u32, most: u32) -> Result<String, AllocError> {
+/// Whether the answers are these for this size.
+fn is_read(alloc: Global, log: &str, size: u32, most: u32, want: &str) -> Result<bool, AllocError> {
     if size < 1 || size > 4096 {
-        return String::from_str(alloc, "no size");
+        return Ok(false);
     }
     let mut files = CutFile {
         bytes: log.as_bytes(),
         most: most as usize,
     };
-    told_lines(alloc, &mut files, "t.log", size)
+    let mut out = String::new(alloc);
+    push_lines(&mut out, alloc, &mut files, "t.log", size)?;
+    Ok(out.as_str() == want)
 }
 
-fn differing_logs(alloc: Global, size: u32, most: u32) -> Result<String, AllocError> {
-    let mut out = String::new(alloc);
-    for (log, want) in LOGS {
-        let got = read_cut(alloc, log, size, most)?;
-        push_difference(&mut out, log, want, &got)?;
+/// How many logs are read as they are to for this size, up to the first that isn't.
+fn right_logs(alloc: Global, size: u32, most: u32) -> Result<usize, AllocError> {
+    for (place, (log, want)) in LOGS.iter().enumerate() {
+        if !is_read(alloc, log, size, most, want)? {
+            return Ok(place);
+        }
     }
-    Ok(out)
+    Ok(LOGS.len())
 }
 
-fn differing_sizes(alloc: Global) -> Result<String, AllocError> {
-    let mut out = String::new(alloc);
+/// The first size for which a log isn't read as it is to be, and which log.
+fn wrong_size(alloc: Global) -> Result<Option<(u32, u32, usize)>, AllocError> {
     for (size, most) in SIZES {
-        let got = differing_logs(alloc, *size, *most)?;
-        push_difference(&mut out, "a size", "", &got)?;
+        let right = right_logs(alloc, *size, *most)?;
+        if right < LOGS.len() {
+            return Ok(Some((*size, *most, right)));
+        }
     }
-    Ok(out)
+    Ok(None)
 }
 
-#[test]
-fn logs_are_read_for_every_size(rt: HostRuntime) -> Result<(), Fail> {
-    assert_eq!(rt; differing_sizes(rt.alloc())?.as_str(), "");
-    Ok(())
-}
+/// The pieces that fail: the first that a reader asks for, the second that the next one asks for, and so on. A log of 21 bytes is
+/// read by four pieces of eight.
+const FAILING: &[u32] = &[1, 3, 6, 10];
 
-/// The piece that fails while a log of 21 bytes is read by pieces of eight, and the answers.
-const FAILURES: &[(u32, &str)] = &[
-    (1, "Failed\n"),
-    (2, "Line(Blocked { digits: [97, 56] })\nFailed\n"),
-    (3, "Line(Blocked { digits: [97, 56] })\nFailed\n"),
+/// The names that are read, one after another, and the answers.
+const FAILURES: &[(&str, &str)] = &[
+    ("t.log", "Failed\n"),
+    ("t.log", "Line(Blocked { digits: [97, 56] })\nFailed\n"),
+    ("t.log", "Line(Blocked { digits: [97, 56] })\nFailed\n"),
     (
-        4,
+        "t.log",
         "Line(Blocked { digits: [97, 56] })\nLine(End(Complete(1)))\nFailed\n",
     ),
     (
-        5,
+        "t.log",
         "Line(Blocked { digits: [97, 56] })\nLine(End(Complete(1)))\nEnd\n",
     ),
+    ("u.log", "Absent\n"),
 ];
 
-fn read_failing(alloc: Global, failing: u32) -> Result<String, AllocError> {
-    let mut files = MemFiles::new(alloc);
-    files.hold("t.log", b"b a8\nend complete: 1\n")?;
-    files.fail_piece(u64::from(failing))?;
-    told_lines(alloc, &mut files, "t.log", 8)
+/// Whether a reader of this name answers so.
+fn answers(
+    alloc: Global,
+    files: &mut MemFiles,
+    name: &str,
+    want: &str,
+) -> Result<bool, AllocError> {
+    let mut out = String::new(alloc);
+    push_lines(&mut out, alloc, files, name, 8)?;
+    Ok(out.as_str() == want)
 }
 
-fn differing_failures(alloc: Global) -> Result<String, AllocError> {
-    let mut out = String::new(alloc);
-    for (failing, want) in FAILURES {
-        let got = read_failing(alloc, *failing)?;
-        push_difference(&mut out, "a failure", want, &got)?;
+/// How many reads are answered as they are to, up to the first that isn't.
+fn right_failures(alloc: Global) -> Result<usize, AllocError> {
+    let mut files = MemFiles::new(alloc);
+    files.hold("t.log", b"b a8\nend complete: 1\n")?;
+    for failing in FAILING {
+        files.fail_piece(u64::from(*failing))?;
     }
-    let mut none = MemFiles::new(alloc);
-    let got = told_lines(alloc, &mut none, "t.log", 8)?;
-    push_difference(&mut out, "a name that is not held", "Absent\n", &got)?;
-    Ok(out)
+    for (place, (name, want)) in FAILURES.iter().enumerate() {
+        if !answers(alloc, &mut files, name, want)? {
+            return Ok(place);
+        }
+    }
+    Ok(FAILURES.len())
 }
 
 #[test]
-fn pieces_that_fail(rt: HostRuntime) -> Result<(), Fail> {
-    assert_eq!(rt; differing_failures(rt.alloc())?.as_str(), "");
+fn logs_are_read(rt: HostRuntime) -> Result<(), Fail> {
+    let alloc = rt.alloc();
+    assert_eq!(rt; wrong_size(alloc)?, None);
+    assert_eq!(rt; right_failures(alloc)?, FAILURES.len());
     Ok(())
 }

@@ -27,40 +27,47 @@ fn back_to(rt: &impl Abort, trail: &mut Trail, level: u32) {
 /// A literal's number, its level and its reason.
 type Row = (i32, u32, Option<u32>);
 
-fn stands_at(rt: &impl Abort, trail: &Trail, place: u32, row: Row) {
+fn stands_at(rt: &impl Abort, trail: &Trail, place: u32, row: Row) -> bool {
     let (number, level, reason) = row;
     let lit = literal(rt, number);
-    assert!(rt; place < trail.len() && lit.variable() <= trail.variables());
-    assert_eq!(rt; trail.at(place), lit);
-    assert_eq!(rt; trail.entry(place).lit, lit);
-    assert_eq!(rt; trail.level_of(lit.variable()), Some(level));
-    assert_eq!(rt; trail.reason_of(lit.variable()), reason);
-    assert_eq!(rt; trail.value(lit), Some(true));
-    assert_eq!(rt; trail.value(lit.opposite()), Some(false));
+    place < trail.len()
+        && lit.variable() <= trail.variables()
+        && trail.at(place) == lit
+        && trail.entry(place).lit == lit
+        && trail.level_of(lit.variable()) == Some(level)
+        && trail.reason_of(lit.variable()) == reason
+        && trail.value(lit) == Some(true)
+        && trail.value(lit.opposite()) == Some(false)
 }
 
-fn stands(rt: &impl Abort, trail: &Trail, level: u32, rows: &[Row]) {
-    assert_eq!(rt; trail.level(), level);
-    assert_eq!(rt; trail.len() as usize, rows.len());
+/// Whether the trail is at this level and has these literals.
+fn stands(rt: &impl Abort, trail: &Trail, level: u32, rows: &[Row]) -> bool {
     let mut place = 0;
     for row in rows {
-        assert!(rt; place < trail.len());
-        stands_at(rt, trail, place, *row);
+        if place >= trail.len() || !stands_at(rt, trail, place, *row) {
+            return false;
+        }
         place += 1;
     }
+    trail.level() == level && trail.len() as usize == rows.len()
 }
 
-fn is_free(rt: &impl Abort, trail: &Trail, variable: u32) {
-    assert!(rt; 1 <= variable && variable <= trail.variables() && trail.variables() < 9);
-    assert_eq!(rt; trail.level_of(variable), None);
-    assert_eq!(rt; trail.reason_of(variable), None);
-    assert_eq!(rt; trail.value(Lit::new(variable, true)), None);
+fn is_free(trail: &Trail, variable: u32) -> bool {
+    1 <= variable
+        && variable <= trail.variables()
+        && trail.variables() < 9
+        && trail.level_of(variable).is_none()
+        && trail.reason_of(variable).is_none()
+        && trail.value(Lit::new(variable, true)).is_none()
 }
 
-fn are_free(rt: &impl Abort, trail: &Trail, variables: &[u32]) {
+fn are_free(trail: &Trail, variables: &[u32]) -> bool {
     for variable in variables {
-        is_free(rt, trail, *variable);
+        if !is_free(trail, *variable) {
+            return false;
+        }
     }
+    true
 }
 
 /// A step forth or back.
@@ -140,18 +147,21 @@ const STAGES: &[(&[Step], u32, &[Row], &[u32])] = &[
     (&[Step::Decide(1), Step::Clear], 0, &[], &[1, 2, 3, 4, 5, 6]),
 ];
 
-#[test]
-fn goes_forth_and_back(rt: HostRuntime) {
-    let mut trail = Trail::new(rt.alloc(), 6).expect(&rt, "memory");
-    for (steps, level, rows, free) in STAGES {
-        take(&rt, &mut trail, steps);
-        stands(&rt, &trail, *level, rows);
-        are_free(&rt, &trail, free);
+/// How many stages are as they are to be, up to the first that isn't.
+fn right_stages(rt: &impl Abort, trail: &mut Trail) -> usize {
+    for (place, (steps, level, rows, free)) in STAGES.iter().enumerate() {
+        take(rt, trail, steps);
+        if !stands(rt, trail, *level, rows) || !are_free(trail, free) {
+            return place;
+        }
     }
+    STAGES.len()
 }
 
 #[test]
-fn holds_no_variable(rt: HostRuntime) {
-    let trail = Trail::new(rt.alloc(), 0).expect(&rt, "memory");
-    stands(&rt, &trail, 0, &[]);
+fn goes_forth_and_back(rt: HostRuntime) {
+    let mut trail = Trail::new(rt.alloc(), 6).expect(&rt, "memory");
+    assert_eq!(rt; right_stages(&rt, &mut trail), STAGES.len());
+    let none = Trail::new(rt.alloc(), 0).expect(&rt, "memory");
+    assert!(rt; stands(&rt, &none, 0, &[]));
 }

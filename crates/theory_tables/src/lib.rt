@@ -1,19 +1,7 @@
-//! Signatures to test with, formulas as text, and the tables of `ec_theory` and `ec_axiom`.
+//! Signatures that are written out, and rows of what is defined over them, worked out by hand.
 //!
-//! [`small_signature`], [`wide_signature`], [`atom_signature`] and [`range_signature`] are exactly those of
-//! specs/Samples.antt, which proofs/ shows to be ones that a file can declare, by a test that other written
-//! signatures may take as well. [`formula_text`] spells a formula for a reader, and promises nothing.
+//! No code stands here. What `ec_theory` and `ec_axiom` promise is exact by the definitions, so a row is a lemma about the
+//! definition that a promise names: proofs/Signatures for sorts, sizes, domains and names, proofs/Trees for shifted and
+//! substituted formulas, proofs/Axioms for the axioms as text. The signatures of specs/Samples are shown to be ones that a
+//! file can declare, by a test that other written signatures may take as well (proofs/SignatureTest).
 #![tactic(auto)]
-
-#[cfg(test)]
-mod axioms;
-mod rows;
-mod samples;
-#[cfg(test)]
-mod signatures;
-mod text;
-#[cfg(test)]
-mod trees;
-
-pub use samples::{atom_signature, range_signature, small_signature, wide_signature};
-pub use text::formula_text;
