@@ -1,5 +1,5 @@
 //! What a case says.
-use std::alloc::Global;
+use std::alloc::{AllocError, Global};
 use std::collections::BTreeMap;
 
 /// What names hold.
@@ -15,107 +15,137 @@ pub enum Call {
 }
 
 /// The one call of a run that fails: the n-th of its kind, counted from 1.
-#[derive(Clone, Copy, Debug, PartialEq, Eq)]
+#[derive(Clone, Copy)]
 pub struct Failing {
     pub call: Call,
     pub number: u64,
 }
 
-/// A change of the files before a run.
-#[derive(Clone, Debug, Drop)]
-pub enum Change {
-    /// The name holds this text.
-    Hold {
-        name: String,
-        text: Vec<u8>,
-    },
+/// What a part of a step says, of its name and with its text.
+#[derive(Clone, Copy)]
+pub enum Verb {
+    /// The name holds this text before the run.
+    File,
+    /// So do the names that have a number of this range in place of `{}`.
+    Files { first: u32, last: u32 },
     /// This text stands in place of a line, counted from 1.
-    Line {
-        number: usize,
-        name: String,
-        text: Vec<u8>,
-    },
-}
-
-/// What is wanted of a name after a run.
-#[derive(Clone, Debug, Drop)]
-pub enum Wanted {
-    /// It holds this text.
-    Text(Vec<u8>),
-    /// It begins with this text.
-    Start(Vec<u8>),
-    /// It ends with this text.
-    End(Vec<u8>),
-    /// One line of it begins with this text.
-    OneLine(Vec<u8>),
-    /// It may hold anything.
-    Anything,
-}
-
-/// A name and what is wanted of it.
-#[derive(Clone, Debug, Drop)]
-pub struct Left {
-    pub name: String,
-    pub wanted: Wanted,
-}
-
-/// Many runs, each with one small harm done to a row.
-#[derive(Clone, Debug, Drop)]
-pub enum Sweep {
-    /// Each call of a kind fails in its turn.
-    Calls(Call),
-    /// A file is cut after each number of bytes: the line where it ends is at fault.
-    Cut { name: String, answer: Vec<u8> },
-    /// Each two neighbouring lines of a list that differ are exchanged: it is no list any more.
-    Swap { name: String },
-    /// The first two lines of a log are exchanged, and the last two: the first of them is at fault.
-    Exchange { name: String, answer: Vec<u8> },
-}
-
-/// A run over the files, with what it must come to.
-#[derive(Clone, Debug, Drop)]
-pub struct Step {
-    pub changes: Vec<Change>,
-    pub words: Option<Vec<String>>,
-    /// What may be printed.
-    pub prints: Vec<Vec<u8>>,
-    pub status: Option<u8>,
+    Line(usize),
+    /// The words of the run.
+    Words,
+    /// This is printed, and nothing that an earlier part says.
+    Prints,
+    /// This may be printed as well.
+    Or,
+    Status(u8),
     /// How many bytes a call of `piece` gives at most; a run for each.
-    pub sizes: Vec<usize>,
-    pub failing: Option<Failing>,
-    /// What names hold afterwards. All other names hold what they held.
-    pub left: Vec<Left>,
-    pub sweeps: Vec<Sweep>,
-    /// The name that holds what was printed, from then on.
-    pub kept: Option<String>,
+    Pieces,
+    Fail(Failing),
+    /// The name holds what was printed, from then on.
+    Into,
+    /// The name holds this text after the run.
+    Holds,
+    /// It begins with this text.
+    Starts,
+    /// It ends with this text.
+    Ends,
+    /// One line of it begins with this text.
+    Once,
+    /// It may hold anything.
+    Writes,
+    /// Each call of a kind fails in its turn.
+    Sweep(Call),
+    /// A file is cut after each number of bytes: the line where it ends is at fault.
+    Cut,
+    /// Each two neighbouring lines of a list that differ are exchanged: it is no list any more.
+    Swap,
+    /// The first two lines of a log are exchanged, and the last two: the first of them is at fault.
+    Exchange,
 }
 
-impl Step {
-    pub fn new(alloc: Global) -> Step {
-        Step {
-            changes: Vec::new(alloc),
-            words: None,
-            prints: Vec::new(alloc),
-            status: None,
-            sizes: Vec::new(alloc),
-            failing: None,
-            left: Vec::new(alloc),
-            sweeps: Vec::new(alloc),
-            kept: None,
-        }
+/// A part of a step.
+#[derive(Drop)]
+pub struct Part {
+    pub verb: Verb,
+    /// A name, or the words, or the sizes.
+    pub name: String,
+    pub text: Vec<u8>,
+}
+
+impl Part {
+    pub fn new(alloc: Global, verb: Verb, name: &str, text: Vec<u8>) -> Result<Part, AllocError> {
+        let name = String::from_str(alloc, name)?;
+        Ok(Part { verb, name, text })
     }
 
-    /// Whether it says all that a run needs.
-    pub fn is_whole(&self) -> bool {
-        self.words.is_some() && self.status.is_some() && !self.prints.is_empty()
+    pub fn copied(&self) -> Result<Part, AllocError> {
+        let name = self.name.clone()?;
+        let text = self.text.clone()?;
+        Ok(Part {
+            verb: self.verb,
+            name,
+            text,
+        })
+    }
+
+    /// The text without the end of its last line.
+    pub fn line(&self) -> &[u8] {
+        self.text.strip_suffix(b"\n").unwrap_or(&self.text)
+    }
+
+    /// Whether it says what the name holds after the run.
+    pub fn is_left(&self) -> bool {
+        matches!(
+            self.verb,
+            Verb::Holds | Verb::Starts | Verb::Ends | Verb::Once | Verb::Writes
+        )
     }
 }
 
-/// Runs over the same files, one after another.
-#[derive(Debug, Drop)]
+/// Runs over the same files, one after another, each with what is said of it.
+#[derive(Drop)]
 pub struct Case {
     pub name: String,
     /// The line that it begins in.
     pub line: u32,
-    pub steps: Vec<Step>,
+    pub steps: Vec<Vec<Part>>,
+}
+
+/// What a step says of its run; of parts that say the same, the last one counts.
+#[derive(Clone, Copy)]
+pub struct Run<'s> {
+    pub words: Option<&'s str>,
+    /// What is to be printed, the first of the texts that may be.
+    pub prints: Option<&'s [u8]>,
+    pub status: Option<u8>,
+    pub failing: Option<Failing>,
+    pub into: Option<&'s str>,
+}
+
+impl Run<'_> {
+    pub fn of(step: &[Part]) -> Run<'_> {
+        let mut run = Run {
+            words: None,
+            prints: None,
+            status: None,
+            failing: None,
+            into: None,
+        };
+        for part in step {
+            match part.verb {
+                Verb::Words => run.words = Some(&part.name),
+                Verb::Prints => run.prints = Some(&part.text),
+                Verb::Or => run.prints = run.prints.or(Some(&part.text)),
+                Verb::Status(status) => run.status = Some(status),
+                Verb::Fail(failing) => run.failing = Some(failing),
+                Verb::Into => run.into = Some(&part.name),
+                _ => {}
+            }
+        }
+        run
+    }
+
+    /// Whether it says all that a run needs.
+    pub fn is_whole(&self) -> bool {
+        self.words.is_some() && self.prints.is_some() && self.status.is_some()
+    }
 }

@@ -1,110 +1,112 @@
 //! What a run came to beside what is wanted.
-use crate::case::{Held, Left, Step, Wanted};
+use crate::case::{Held, Part, Run, Verb};
 use crate::report::Report;
 use crate::trial::Outcome;
-use std::alloc::{AllocError, Global};
+use std::alloc::AllocError;
+
+/// The text that a name holds, or an empty one.
+pub fn text_of<'h>(held: &'h Held, name: &str) -> &'h [u8] {
+    match held.get(name) {
+        Some(text) => text,
+        None => b"",
+    }
+}
 
 /// Whether the lines of a text that begin so are one.
 fn has_one(bytes: &[u8], start: &[u8]) -> bool {
-    bytes
-        .split(|byte| *byte == b'\n')
-        .filter(|line| line.starts_with(start))
-        .count()
-        == 1
+    let mut count = 0u32;
+    for line in bytes.split(|byte| *byte == b'\n') {
+        if line.starts_with(start) {
+            count = count.saturating_add(1);
+        }
+    }
+    count == 1
 }
 
-fn is_as_wanted(bytes: &[u8], wanted: &Wanted) -> bool {
-    match wanted {
-        Wanted::Text(text) => bytes == text.as_slice(),
-        Wanted::Start(text) => bytes.starts_with(text),
-        Wanted::End(text) => bytes.ends_with(text),
-        Wanted::OneLine(text) => has_one(bytes, text),
-        Wanted::Anything => true,
+fn is_as_wanted(bytes: &[u8], part: &Part) -> bool {
+    match part.verb {
+        Verb::Holds => bytes == part.text.as_slice(),
+        Verb::Starts => bytes.starts_with(&part.text),
+        Verb::Ends => bytes.ends_with(&part.text),
+        Verb::Once => has_one(bytes, part.line()),
+        _ => true,
     }
 }
 
-fn text_of(wanted: &Wanted) -> &[u8] {
-    match wanted {
-        Wanted::Text(text) | Wanted::Start(text) | Wanted::End(text) | Wanted::OneLine(text) =>
-            text,
-        Wanted::Anything => b"",
+fn wanted(part: &Part) -> &[u8] {
+    match part.verb {
+        Verb::Once => part.line(),
+        Verb::Writes => b"",
+        _ => &part.text,
     }
 }
 
-/// Whether a case says what a name holds after a run.
-pub fn is_spoken_of(left: &[Left], name: &str) -> bool {
-    left.iter().any(|left| left.name.as_str() == name)
+/// Compares what a name holds, if anything, with what a part says of it.
+fn compare_part(report: &mut Report, part: &Part, now: Option<&Vec<u8>>) -> Result<(), AllocError> {
+    match now {
+        Some(bytes) if is_as_wanted(bytes, part) => Ok(()),
+        Some(bytes) => report.differ(&part.name, wanted(part), bytes),
+        None => report.differ(&part.name, wanted(part), b""),
+    }
 }
 
-/// Tells of each name that doesn't hold what it held, other than those that are spoken of.
+/// Whether a step says what a name holds after the run.
+fn is_left(step: &[Part], name: &str) -> bool {
+    for part in step {
+        if part.is_left() && part.name.as_str() == name {
+            return true;
+        }
+    }
+    false
+}
+
+/// Tells of each name that doesn't hold what it held, other than those that the step speaks of.
 pub fn compare_others(
     report: &mut Report,
-    left: &[Left],
+    step: &[Part],
     before: &Held,
     after: &Held,
 ) -> Result<(), AllocError> {
-    for (name, bytes) in before.iter() {
-        let now = after.get(name.as_str());
-        if !is_spoken_of(left, name) && now != Some(bytes) {
-            let now = now.map_or(b"".as_slice(), |now| now.as_slice());
-            report.differ(name, bytes, now)?;
-        }
-    }
-    for (name, bytes) in after.iter() {
-        if !is_spoken_of(left, name) && !before.contains_key(name.as_str()) {
-            report.differ(name, b"", bytes)?;
+    for (name, now) in after.iter() {
+        if !is_left(step, name) {
+            match before.get(name.as_str()) {
+                Some(old) => report.compare(name, old, now)?,
+                None => report.differ(name, b"", now)?,
+            }
         }
     }
     Ok(())
 }
 
-fn compare_left(report: &mut Report, left: &[Left], after: &Held) -> Result<(), AllocError> {
-    for left in left {
-        match after.get(left.name.as_str()) {
-            Some(bytes) if is_as_wanted(bytes, &left.wanted) => {}
-            Some(bytes) => report.differ(&left.name, text_of(&left.wanted), bytes)?,
-            None => report.differ(&left.name, text_of(&left.wanted), b"")?,
+/// Whether one of the texts that may be printed is this one.
+fn is_printed(step: &[Part], put: &[u8]) -> bool {
+    let mut found = false;
+    for part in step {
+        match part.verb {
+            Verb::Prints => found = part.text.as_slice() == put,
+            Verb::Or => found = found || part.text.as_slice() == put,
+            _ => {}
         }
     }
-    Ok(())
-}
-
-pub fn compare_status(
-    alloc: Global,
-    report: &mut Report,
-    wanted: u8,
-    came: u8,
-) -> Result<(), AllocError> {
-    if wanted == came {
-        return Ok(());
-    }
-    let wanted = format!(in alloc; "status: wanted {wanted}, came {came}")?;
-    report.note(&wanted)
-}
-
-/// Tells of a text that was put and is none of those that may be.
-pub fn compare_put(report: &mut Report, prints: &[Vec<u8>], put: &[u8]) -> Result<(), AllocError> {
-    if prints.iter().any(|text| text.as_slice() == put) {
-        return Ok(());
-    }
-    let wanted = prints
-        .first()
-        .map_or(b"".as_slice(), |text| text.as_slice());
-    report.differ("prints", wanted, put)
+    found
 }
 
 /// Tells of all in which a run differs from what its step says.
 pub fn compare(
-    alloc: Global,
     report: &mut Report,
-    step: &Step,
+    step: &[Part],
     before: &Held,
     outcome: &Outcome,
 ) -> Result<(), AllocError> {
-    if let Some(status) = step.status {
-        compare_status(alloc, report, status, outcome.status)?;
+    let run = Run::of(step);
+    report.compare_status(run.status.unwrap_or(0), outcome.status)?;
+    if !is_printed(step, &outcome.put) {
+        report.differ("prints", run.prints.unwrap_or(b""), &outcome.put)?;
     }
-    compare_put(report, &step.prints, &outcome.put)?;
-    compare_left(report, &step.left, &outcome.held)?;
-    compare_others(report, &step.left, before, &outcome.held)
+    for part in step {
+        if part.is_left() {
+            compare_part(report, part, outcome.held.get(part.name.as_str()))?;
+        }
+    }
+    compare_others(report, step, before, &outcome.held)
 }

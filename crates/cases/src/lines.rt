@@ -2,7 +2,7 @@
 use std::alloc::{AllocError, Global};
 
 /// A line at the margin, and the text that belongs to it.
-#[derive(Debug, Drop)]
+#[derive(Drop)]
 pub struct Directive {
     /// The line that it stands in, counted from 1.
     pub line: u32,

@@ -1,7 +1,7 @@
 //! Runs the cases of case files: words over files in memory, and what must come of them.
 //!
 //! Its words are the names of the case files. It prints each case that differs, with what was wanted and what came,
-//! and then how many cases and runs each file has. docs/ARCHITECTURE.md says how a case is written.
+//! and then how many cases and runs each file has. docs/CONTRIBUTING.md says how a case is written.
 #![tactic(auto)]
 
 mod bytes;
@@ -19,31 +19,29 @@ mod sweeps;
 mod trial;
 
 use crate::reading::{Misplaced, cases};
-use crate::report::Report;
+use crate::report::{Counts, Report};
 use crate::runner::run_cases;
+use std::alloc::{AllocError, Global};
 use std::rt::{Env, Files};
 use std::{env, fs, io};
 
-/// How many cases and runs there were.
-#[derive(Clone, Copy)]
-struct Counts {
-    cases: u32,
-    runs: u32,
+/// What the cases of a file's text come to.
+fn reported(alloc: Global, name: &str, text: &str) -> Result<Report, AllocError> {
+    let mut report = Report::new(alloc);
+    match cases(alloc, text) {
+        Ok(cases) => run_cases(&mut report, name, &cases)?,
+        Err(Misplaced { line, why }) => report.misread(name, line, why)?,
+    }
+    Ok(report)
 }
 
 /// Runs the cases of one file, and prints what differs, and the counts.
 fn run_file<R: Files + Print + AllocGlobal>(rt: &R, name: &str) -> io::Result<Counts> {
-    let alloc = rt.alloc();
     let text = fs::read_to_string(rt, name)?;
-    let mut report = Report::new(alloc, name)?;
-    match cases(alloc, &text) {
-        Ok(cases) => run_cases(alloc, &mut report, &cases)?,
-        Err(Misplaced { line, why }) => println!(rt; "{name}:{line}: {why}")?,
-    }
-    let Report { cases, runs, .. } = report;
-    print!(rt; "{}", report.differences)?;
-    println!(rt; "{name}: {cases} cases, {runs} runs")?;
-    Ok(Counts { cases, runs })
+    let report = reported(rt.alloc(), name, &text)?;
+    let Counts { cases, runs } = report.counts;
+    println!(rt; "{}{name}: {cases} cases, {runs} runs", report.differences)?;
+    Ok(report.counts)
 }
 
 fn main(rt: HostRuntime) -> io::Result<()> {

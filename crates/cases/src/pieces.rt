@@ -1,6 +1,6 @@
 //! Texts put together of pieces, for bytes that no line shows and for what would be too long to write.
 use crate::misread::Misread;
-use std::alloc::Global;
+use std::alloc::{AllocError, Global};
 
 /// How far an escape in a quoted text has come.
 #[derive(Clone, Copy)]
@@ -54,11 +54,35 @@ pub fn number(word: &str) -> Result<u32, Misread> {
     word.parse::<u32>().map_err(|_| Misread::Number)
 }
 
+/// How often a text stands there: as it is, or with each number of a range.
+#[derive(Clone, Copy)]
+enum Count {
+    Times(u32),
+    Numbers(u32, u32),
+}
+
+fn repeats(front: &str) -> Result<Count, Misread> {
+    if front.is_empty() {
+        return Ok(Count::Times(1));
+    }
+    match front.split_once(" to ") {
+        Some((first, last)) => Ok(Count::Numbers(number(first)?, number(last)?)),
+        None => {
+            let times = front.strip_suffix(" times").ok_or(Misread::Piece)?;
+            Ok(Count::Times(number(times)?))
+        }
+    }
+}
+
 fn push_times(out: &mut Vec<u8>, times: u32, text: &[u8]) -> Result<(), Misread> {
     for _ in 0..times {
         out.extend_from_slice(text)?;
     }
     Ok(())
+}
+
+fn push_number(alloc: Global, out: &mut Vec<u8>, number: u32) -> Result<(), AllocError> {
+    out.extend_from_slice(format!(in alloc; "{number}")?.as_bytes())
 }
 
 /// Adds a text once for each number of a range, with the number in place of `{}`.
@@ -74,7 +98,7 @@ fn push_numbered(
     let back = unquoted(alloc, back)?;
     for number in first..=last {
         out.extend_from_slice(&front)?;
-        out.extend_from_slice(format!(in alloc; "{number}")?.as_bytes())?;
+        push_number(alloc, out, number)?;
         out.extend_from_slice(&back)?;
     }
     Ok(())
@@ -82,16 +106,11 @@ fn push_numbered(
 
 /// Adds a piece: `"TEXT"`, `N times "TEXT"`, or `N to N "TEXT"`.
 fn push_piece(alloc: Global, out: &mut Vec<u8>, line: &str) -> Result<(), Misread> {
-    let (count, quoted) = line.split_once("\"").ok_or(Misread::Piece)?;
+    let (front, quoted) = line.split_once("\"").ok_or(Misread::Piece)?;
     let quoted = quoted.strip_suffix("\"").ok_or(Misread::Piece)?;
-    let count = count.trim();
-    if let Some(times) = count.strip_suffix(" times") {
-        return push_times(out, number(times)?, &unquoted(alloc, quoted)?);
-    }
-    match count.split_once(" to ") {
-        Some((first, last)) => push_numbered(alloc, out, number(first)?, number(last)?, quoted),
-        None if count.is_empty() => push_times(out, 1, &unquoted(alloc, quoted)?),
-        None => Err(Misread::Piece),
+    match repeats(front.trim())? {
+        Count::Times(times) => push_times(out, times, &unquoted(alloc, quoted)?),
+        Count::Numbers(first, last) => push_numbered(alloc, out, first, last, quoted),
     }
 }
 

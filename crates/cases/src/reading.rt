@@ -1,5 +1,5 @@
 //! A case file read: from its directives to its cases.
-use crate::case::{Call, Case, Change, Failing, Left, Step, Sweep, Wanted};
+use crate::case::{Call, Case, Failing, Part, Run, Verb};
 use crate::lines::{Directive, directives};
 use crate::misread::Misread;
 use crate::pieces::{joined, number};
@@ -7,7 +7,7 @@ use std::alloc::{AllocError, Global};
 use std::collections::BTreeMap;
 
 /// Where a case file can't be read, and why.
-#[derive(Debug, Drop)]
+#[derive(Drop)]
 pub struct Misplaced {
     pub line: u32,
     pub why: Misread,
@@ -18,7 +18,8 @@ pub struct Misplaced {
 struct Reader {
     alloc: Global,
     texts: BTreeMap<String, Vec<u8>>,
-    given: Step,
+    /// What the first step of each later case begins with, which further directives belong to.
+    given: Vec<Part>,
     is_given: bool,
     cases: Vec<Case>,
 }
@@ -33,165 +34,114 @@ fn call(word: &str) -> Result<Call, Misread> {
     }
 }
 
-fn owned(alloc: Global, text: &str) -> Result<String, AllocError> {
-    String::from_str(alloc, text)
-}
-
-fn words(alloc: Global, line: &str) -> Result<Vec<String>, AllocError> {
-    let mut words = Vec::new(alloc);
-    for word in line.split_whitespace() {
-        words.push(owned(alloc, word)?)?;
-    }
-    Ok(words)
-}
-
-fn sizes(alloc: Global, line: &str) -> Result<Vec<usize>, Misread> {
-    let mut sizes = Vec::new(alloc);
-    for word in line.split_whitespace() {
-        sizes.push(number(word)? as usize)?;
-    }
-    Ok(sizes)
-}
-
-/// Adds files that hold the same text, whose names have a number in place of `{}`.
-fn push_numbered(
-    alloc: Global,
-    changes: &mut Vec<Change>,
-    name: &str,
-    range: &str,
-    text: &Vec<u8>,
-) -> Result<(), Misread> {
-    let (front, back) = name.split_once("{}").ok_or(Misread::Directive)?;
-    let (first, last) = range.split_once(" to ").ok_or(Misread::Directive)?;
-    for number in number(first)?..=number(last)? {
-        changes.push(Change::Hold {
-            name: format!(in alloc; "{front}{number}{back}")?,
-            text: text.clone()?,
-        })?;
-    }
-    Ok(())
-}
-
-/// A change of the files that a directive asks for, or whether it asks for none.
-fn read_change(
-    alloc: Global,
-    step: &mut Step,
-    head: &str,
-    text: &Vec<u8>,
-) -> Result<bool, Misread> {
-    if let Some(name) = head.strip_prefix("file ") {
-        if let Some((name, range)) = name.split_once(" for ") {
-            push_numbered(alloc, &mut step.changes, name, range, text)?;
-            return Ok(true);
-        }
-        step.changes.push(Change::Hold {
-            name: owned(alloc, name)?,
-            text: text.clone()?,
-        })?;
-        return Ok(true);
-    }
-    if let Some(place) = head.strip_prefix("line ") {
-        let (line, name) = place.split_once(" of ").ok_or(Misread::Directive)?;
-        step.changes.push(Change::Line {
-            number: number(line)? as usize,
-            name: owned(alloc, name)?,
-            text: text.clone()?,
-        })?;
-        return Ok(true);
-    }
-    Ok(false)
-}
-
-/// What a name has to hold afterwards, by the verb of a directive.
-fn wanted(verb: &str, text: &Vec<u8>) -> Result<Option<Wanted>, AllocError> {
-    Ok(match verb {
-        "holds" => Some(Wanted::Text(text.clone()?)),
-        "starts" => Some(Wanted::Start(text.clone()?)),
-        "ends" => Some(Wanted::End(text.clone()?)),
-        "once" => Some(Wanted::OneLine(unended(text)?)),
-        "writes" => Some(Wanted::Anything),
-        _ => None,
-    })
-}
-
-/// A text without the end of its last line.
-fn unended(text: &Vec<u8>) -> Result<Vec<u8>, AllocError> {
-    let mut text = text.clone()?;
-    if text.ends_with(b"\n") {
-        text.pop();
-    }
-    Ok(text)
-}
-
-/// The many runs that a directive asks for.
-fn sweep(alloc: Global, verb: &str, rest: &str, text: &Vec<u8>) -> Result<Option<Sweep>, Misread> {
-    Ok(match verb {
-        "sweep" => Some(Sweep::Calls(call(rest)?)),
-        "cut" => Some(Sweep::Cut {
-            name: owned(alloc, rest)?,
-            answer: unended(text)?,
-        }),
-        "swap" => Some(Sweep::Swap {
-            name: owned(alloc, rest)?,
-        }),
-        "exchange" => Some(Sweep::Exchange {
-            name: owned(alloc, rest)?,
-            answer: unended(text)?,
-        }),
-        _ => None,
-    })
-}
-
-fn failing(rest: &str) -> Result<Failing, Misread> {
+/// A call that fails: `append 2`.
+fn failing(rest: &str) -> Result<Verb, Misread> {
     let (kind, count) = rest.split_once(" ").ok_or(Misread::Number)?;
-    Ok(Failing {
-        call: call(kind)?,
-        number: u64::from(number(count)?),
+    let call = call(kind)?;
+    let number = u64::from(number(count)?);
+    Ok(Verb::Fail(Failing { call, number }))
+}
+
+/// Files that hold the same text: `f{}.e`, `1 to 64`.
+fn files(name: &str, range: &str) -> Result<Verb, Misread> {
+    let (first, last) = range.split_once(" to ").ok_or(Misread::Directive)?;
+    let first = number(first)?;
+    let last = number(last)?;
+    if name.contains("{}") {
+        Ok(Verb::Files { first, last })
+    } else {
+        Err(Misread::Directive)
+    }
+}
+
+fn file(rest: &str) -> Result<Verb, Misread> {
+    match rest.split_once(" for ") {
+        Some((name, range)) => files(name, range),
+        None => Ok(Verb::File),
+    }
+}
+
+/// A line of a file: `4 of l`.
+fn line(place: &str) -> Result<Verb, Misread> {
+    let (line, _) = place.split_once(" of ").ok_or(Misread::Directive)?;
+    Ok(Verb::Line(number(line)? as usize))
+}
+
+fn pieces(sizes: &str) -> Result<Verb, Misread> {
+    for size in sizes.split_whitespace() {
+        number(size)?;
+    }
+    Ok(Verb::Pieces)
+}
+
+/// What a word says by itself.
+fn plain(word: &str) -> Result<Verb, Misread> {
+    Ok(match word {
+        "words" => Verb::Words,
+        "prints" => Verb::Prints,
+        "or" => Verb::Or,
+        "into" => Verb::Into,
+        "holds" => Verb::Holds,
+        "starts" => Verb::Starts,
+        "ends" => Verb::Ends,
+        "once" => Verb::Once,
+        "writes" => Verb::Writes,
+        "cut" => Verb::Cut,
+        "swap" => Verb::Swap,
+        "exchange" => Verb::Exchange,
+        _ => return Err(Misread::Directive),
     })
 }
 
-/// What a directive says of a run itself.
-fn read_run(
-    alloc: Global,
-    step: &mut Step,
-    verb: &str,
-    rest: &str,
-    text: &Vec<u8>,
-) -> Result<(), Misread> {
-    match verb {
-        "words" => step.words = Some(words(alloc, rest)?),
-        "prints" => {
-            step.prints.clear();
-            step.prints.push(text.clone()?)?;
-        }
-        "or" => step.prints.push(text.clone()?)?,
-        "status" => step.status = Some(number(rest)?.min(255) as u8),
-        "pieces" => step.sizes = sizes(alloc, rest.strip_prefix("of ").unwrap_or(rest))?,
-        "fail" => step.failing = Some(failing(rest)?),
-        "into" => step.kept = Some(owned(alloc, rest)?),
-        _ => return Err(Misread::Directive),
+/// What a word says with what follows it.
+fn verb(word: &str, rest: &str) -> Result<Verb, Misread> {
+    match word {
+        "file" if rest.is_empty() => Err(Misread::Directive),
+        "file" => file(rest),
+        "line" => line(rest),
+        "pieces" => pieces(name_in(Verb::Pieces, rest)),
+        "status" => Ok(Verb::Status(number(rest)?.min(255) as u8)),
+        "fail" => failing(rest),
+        "sweep" => Ok(Verb::Sweep(call(rest)?)),
+        _ => plain(word),
     }
+}
+
+/// The name, or the sizes, in what follows a word.
+fn name_in(verb: Verb, rest: &str) -> &str {
+    match verb {
+        Verb::Files { .. } => rest.split_once(" for ").map_or(rest, |(name, _)| name),
+        Verb::Line(_) => rest.split_once(" of ").map_or(rest, |(_, name)| name),
+        Verb::Pieces => rest.strip_prefix("of ").unwrap_or(rest),
+        _ => rest,
+    }
+}
+
+/// A directive's head without what says where its text comes from.
+fn said(head: &str) -> &str {
+    match head.strip_suffix(" as pieces") {
+        Some(head) => head,
+        None => head.split_once(" is ").map_or(head, |(head, _)| head),
+    }
+}
+
+fn part(alloc: Global, head: &str, text: Vec<u8>) -> Result<Part, Misread> {
+    let (word, rest) = head.split_once(" ").unwrap_or((head, ""));
+    let verb = verb(word, rest)?;
+    Ok(Part::new(alloc, verb, name_in(verb, rest), text)?)
+}
+
+fn push(alloc: Global, step: &mut Vec<Part>, head: &str, text: Vec<u8>) -> Result<(), Misread> {
+    step.push(part(alloc, head, text)?)?;
     Ok(())
 }
 
-/// Adds to a step what a directive with this text says.
-fn read_step(alloc: Global, step: &mut Step, head: &str, text: &Vec<u8>) -> Result<(), Misread> {
-    if read_change(alloc, step, head, text)? {
-        return Ok(());
+fn copied(alloc: Global, parts: &[Part]) -> Result<Vec<Part>, AllocError> {
+    let mut copy = Vec::new(alloc);
+    for part in parts {
+        copy.push(part.copied()?)?;
     }
-    let (verb, rest) = head.split_once(" ").unwrap_or((head, ""));
-    if let Some(wanted) = wanted(verb, text)? {
-        step.left.push(Left {
-            name: owned(alloc, rest)?,
-            wanted,
-        })?;
-        return Ok(());
-    }
-    if let Some(sweep) = sweep(alloc, verb, rest, text)? {
-        step.sweeps.push(sweep)?;
-        return Ok(());
-    }
-    read_run(alloc, step, verb, rest, text)
+    Ok(copy)
 }
 
 impl Reader {
@@ -199,83 +149,90 @@ impl Reader {
         Reader {
             alloc,
             texts: BTreeMap::new(alloc),
-            given: Step::new(alloc),
+            given: Vec::new(alloc),
             is_given: false,
             cases: Vec::new(alloc),
         }
     }
 
-    /// The head of a directive that has a text, and the text: its block, the named one, or the pieces of its block.
-    fn text<'d>(&self, directive: &'d Directive) -> Result<(&'d str, Vec<u8>), Misread> {
-        let head = directive.head.as_str();
-        if let Some(head) = head.strip_suffix(" as pieces") {
-            return Ok((head, joined(self.alloc, &directive.block)?));
+    /// The text of a directive: its block, the named one, or the pieces of its block.
+    fn text(&self, directive: &Directive) -> Result<Vec<u8>, Misread> {
+        if directive.head.ends_with(" as pieces") {
+            return joined(self.alloc, &directive.block);
         }
-        if let Some((head, name)) = head.split_once(" is ") {
+        if let Some((_, name)) = directive.head.split_once(" is ") {
             let text = self.texts.get(name).ok_or(Misread::Text)?;
-            return Ok((head, text.clone()?));
+            return Ok(text.clone()?);
         }
-        let text = Vec::from_slice(self.alloc, directive.block.as_bytes())?;
-        Ok((head, text))
+        Ok(Vec::from_slice(self.alloc, directive.block.as_bytes())?)
     }
 
     fn open_case(&mut self, name: &str, line: u32) -> Result<(), Misread> {
+        let name = String::from_str(self.alloc, name)?;
         let mut steps = Vec::new(self.alloc);
-        steps.push(self.given.clone()?)?;
-        self.cases.push(Case {
-            name: owned(self.alloc, name)?,
-            line,
-            steps,
-        })?;
+        steps.push(copied(self.alloc, &self.given)?)?;
+        self.cases.push(Case { name, line, steps })?;
         self.is_given = false;
         Ok(())
     }
 
     fn open_step(&mut self) -> Result<(), Misread> {
         let case = self.cases.last_mut().ok_or(Misread::NoCase)?;
-        case.steps.push(Step::new(self.alloc))?;
+        case.steps.push(Vec::new(self.alloc))?;
         Ok(())
     }
 
-    fn read(&mut self, directive: &Directive) -> Result<(), Misread> {
-        let head = directive.head.as_str();
-        if let Some(name) = head.strip_prefix("case ") {
-            return self.open_case(name, directive.line);
-        }
-        match head {
-            "given" => {
-                self.given = Step::new(self.alloc);
-                self.is_given = true;
-                return Ok(());
-            }
-            "then" => return self.open_step(),
-            _ => {}
-        }
-        let (head, text) = self.text(directive)?;
-        if let Some(name) = head.strip_prefix("text ") {
-            self.texts.insert(owned(self.alloc, name)?, text)?;
-            return Ok(());
-        }
-        if self.is_given {
-            return read_step(self.alloc, &mut self.given, head, &text);
-        }
-        let case = self.cases.last_mut().ok_or(Misread::NoCase)?;
-        let step = case.steps.last_mut().ok_or(Misread::NoCase)?;
-        read_step(self.alloc, step, head, &text)
+    fn open_given(&mut self) {
+        self.given.clear();
+        self.is_given = true;
     }
 
-    /// The cases, if each of their runs is said whole.
-    fn into_cases(self) -> Result<Vec<Case>, Misplaced> {
-        for case in &self.cases {
-            if !case.steps.iter().all(|step| step.is_whole()) {
-                return Err(Misplaced {
-                    line: case.line,
-                    why: Misread::Unsaid,
-                });
-            }
+    /// The step that a directive belongs to.
+    fn step(&mut self) -> Result<&mut Vec<Part>, Misread> {
+        if self.is_given {
+            return Ok(&mut self.given);
         }
-        Ok(self.cases)
+        let case = self.cases.last_mut().ok_or(Misread::NoCase)?;
+        case.steps.last_mut().ok_or(Misread::NoCase)
     }
+
+    fn name_text(&mut self, name: &str, text: Vec<u8>) -> Result<(), AllocError> {
+        self.texts
+            .insert(String::from_str(self.alloc, name)?, text)?;
+        Ok(())
+    }
+
+    /// Reads a directive with a text: a text's name, or a part of a step.
+    fn add(&mut self, head: &str, text: Vec<u8>) -> Result<(), Misread> {
+        match head.strip_prefix("text ") {
+            Some(name) => Ok(self.name_text(name, text)?),
+            None => push(self.alloc, self.step()?, head, text),
+        }
+    }
+
+    fn read(&mut self, directive: &Directive) -> Result<(), Misread> {
+        match directive.head.as_str() {
+            "given" => {
+                self.open_given();
+                Ok(())
+            }
+            "then" => self.open_step(),
+            head => match head.strip_prefix("case ") {
+                Some(name) => self.open_case(name, directive.line),
+                None => self.add(said(head), self.text(directive)?),
+            },
+        }
+    }
+}
+
+/// The line of the first case with a step that doesn't say all that a run needs.
+fn first_unsaid(cases: &[Case]) -> Option<u32> {
+    for case in cases {
+        if !case.steps.iter().all(|step| Run::of(step).is_whole()) {
+            return Some(case.line);
+        }
+    }
+    None
 }
 
 /// The cases of a case file, or the first directive that can't be read.
@@ -286,10 +243,16 @@ pub fn cases(alloc: Global, text: &str) -> Result<Vec<Case>, Misplaced> {
     };
     let mut reader = Reader::new(alloc);
     for directive in &directives(alloc, text).map_err(memory)? {
-        reader.read(directive).map_err(|why| Misplaced {
-            line: directive.line,
-            why,
-        })?;
+        let line = directive.line;
+        reader
+            .read(directive)
+            .map_err(|why| Misplaced { line, why })?;
     }
-    reader.into_cases()
+    match first_unsaid(&reader.cases) {
+        Some(line) => Err(Misplaced {
+            line,
+            why: Misread::Unsaid,
+        }),
+        None => Ok(reader.cases),
+    }
 }

@@ -11,13 +11,9 @@ use std::process::ExitCode;
 use std::rt::Env;
 use std::{env, io};
 
-/// The words behind the program's name.
+/// The program's name and the words behind it.
 fn words<R: Env + AllocGlobal>(rt: &R, alloc: Global) -> io::Result<Vec<String>> {
-    let mut words = Vec::new(alloc);
-    for word in env::args(rt)?.skip(1) {
-        words.push(word)?;
-    }
-    Ok(words)
+    Ok(env::args(rt)?.collect(alloc)?)
 }
 
 fn main(rt: HostRuntime) -> ExitCode {
@@ -29,7 +25,8 @@ fn main(rt: HostRuntime) -> ExitCode {
         }
         Err(_) => return ExitCode::from(8),
     };
+    let words = words.get(1..).unwrap_or(&[]);
     let mut files = HostFiles::new(&rt);
     let mut out = HostOut::new(&rt);
-    ExitCode::from(run(alloc, &words, &mut files, &mut out).number())
+    ExitCode::from(run(alloc, words, &mut files, &mut out).number())
 }
