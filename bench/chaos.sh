@@ -1,6 +1,6 @@
 #!/usr/bin/env bash
 # Runs the built program while the system fails it: its output, its files, a full disk, signals. Each line tells the situation, the
-# status, what was put and what LOG holds. A line fails where it is otherwise than the manual says: so no list may be put before
+# status, what was put and what LOG holds. A line fails where it is otherwise than docs/COMMANDS.md says: so no list may be put before
 # LOG has the whole log, and an old LOG may be lost only where a log is written over it. Its word: the built program (else the one
 # of this repository). It is meant for root, who may mount a small disk, and it runs the program as somebody else where that matters.
 set -eu
@@ -53,13 +53,13 @@ coins() {
         '!HoldsAt(Heads(coin),0).'
 }
 
-# Ten pigeons and nine holes: impossible, which takes a search of some seconds.
+# Twelve pigeons and eleven holes: impossible, which takes a search of minutes.
 pigeons() {
     printf '%s\n' \
         'sort pigeon: integer' \
         'sort hole: integer' \
-        'range pigeon 1 10' \
-        'range hole 1 9' \
+        'range pigeon 1 12' \
+        'range hole 1 11' \
         'predicate In(pigeon,hole)' \
         '{hole} In(pigeon,hole).' \
         'In(pigeon1,hole) & In(pigeon2,hole) -> pigeon1=pigeon2.'

@@ -24,5 +24,5 @@ finish() {
         printf '%d failed\n' "$failures"
         exit 1
     fi
-    echo 'all as the manual says'
+    echo 'all as docs/COMMANDS.md says'
 }

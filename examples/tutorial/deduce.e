@@ -1,0 +1,3 @@
+load predict.e
+
+!HoldsAt(Open(Front),2).

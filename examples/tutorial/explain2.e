@@ -1,0 +1,2 @@
+load explain.e
+load rules.e
